@@ -23,8 +23,8 @@ use Rattle.gl_std.specs.declared.judge.Judged.{Judged}
 use Rattle.gl_std.specs.declared.line.Operation.{Operation as OperationValue}
 use Rattle.gl_std.specs.declared.names.known.Known.{Known}
 use Rattle.gl_std.specs.declared.names.Found.{Found}
-use Rattle.gl_std.specs.declared.said.Said.{Said}
-use Rattle.gl_std.specs.declared.said.Said.TheVariants.{Blank, Bad, Other, Call as CallSaid}
+use Rattle.gl_std.specs.declared.numbered_line.NumberedLine.{NumberedLine}
+use Rattle.gl_std.specs.declared.numbered_line.NumberedLine.TheVariants.{Blank, Bad, Other, Call as NumberedCall}
 use Rattle.gl_std.specs.declared.trace.Trace.{Trace}
 use Rattle.gl_std.proofs.Growth.{IsFront-itself}
 use Rattle.gl_std.proofs.Places.{position_at, same_name}
@@ -71,21 +71,21 @@ go_on_itself names = record { threads = IsFront-itself names.threads; locks = Is
 -- so the numbers have names
 pub call_numbered : (names : NameLists) (operation : OperationValue) (thread operand location : ℕ) (t p l : List ℕ)
     → slice_get names.threads thread ≡ Some t → slice_get (operands (shown_operation operation) names) operand ≡ Some p → slice_get names.locs location ≡ Some l
-    → IsNumbered names (CallSaid operation thread operand location)
+    → IsNumbered names (NumberedCall operation thread operand location)
 call_numbered names operation thread operand location t p l a b d =
     (slice_get_within names.threads thread t a, slice_get_within (operands (shown_operation operation) names) operand p b, slice_get_within names.locs location l d)
 
 -- and say the line
-pub call_said : (names : NameLists) (operation : OperationValue) (thread operand location : ℕ) (t p l : List ℕ)
+pub call_says : (names : NameLists) (operation : OperationValue) (thread operand location : ℕ) (t p l : List ℕ)
     → slice_get names.threads thread ≡ Some t → slice_get (operands (shown_operation operation) names) operand ≡ Some p → slice_get names.locs location ≡ Some l
-    → shape_in names (CallSaid operation thread operand location) ≡ Call (shown_operation operation) t p l
-call_said names operation thread operand location t p l a b d =
+    → shape_in names (NumberedCall operation thread operand location) ≡ Call (shown_operation operation) t p l
+call_says names operation thread operand location t p l a b d =
     let first = named_of names.threads thread t a in
     let second = named_of (operands (shown_operation operation) names) operand p b in
     let third = named_of names.locs location l d in
     (λ i. Call (shown_operation operation) (first i) (second i) (third i))
 
--- ---- what was said before names are added
+-- ---- what lines said before names are added
 
 operands_front : (operation : Operation) (old new : NameLists) → GoOn old new → IsFront (operands operation old) (operands operation new)
 operands_front operation old new on = by (is_on_thread operation)
@@ -94,22 +94,22 @@ operands_front operation old new on = by (is_on_thread operation)
     by true = on.threads
     by false = on.locks
 
-numbered_later : (old new : NameLists) (said : Said) → GoOn old new → IsNumbered old said → IsNumbered new said
+numbered_later : (old new : NameLists) (line : NumberedLine) → GoOn old new → IsNumbered old line → IsNumbered new line
 numbered_later old new Blank on is = tt
 numbered_later old new (Bad kind) on is = tt
 numbered_later old new Other on is = tt
-numbered_later old new (CallSaid operation thread operand location) on is =
+numbered_later old new (NumberedCall operation thread operand location) on is =
     let o = shown_operation operation in
     let a = front_length old.threads new.threads on.threads in
     let b = front_length (operands o old) (operands o new) (operands_front o old new on) in
     let d = front_length old.locs new.locs on.locs in
     (omega (arith, is.0, a), omega (arith, is.1, b), omega (arith, is.2, d))
 
-says_later : (old new : NameLists) (said : Said) → GoOn old new → IsNumbered old said → shape_in new said ≡ shape_in old said
+says_later : (old new : NameLists) (line : NumberedLine) → GoOn old new → IsNumbered old line → shape_in new line ≡ shape_in old line
 says_later old new Blank on is = refl
 says_later old new (Bad kind) on is = refl
 says_later old new Other on is = refl
-says_later old new (CallSaid operation thread operand location) on is =
+says_later old new (NumberedCall operation thread operand location) on is =
     let o = shown_operation operation in
     let t = named_front old.threads new.threads thread on.threads is.0 in
     let p = named_front (operands o old) (operands o new) operand (operands_front o old new on) is.1 in
@@ -117,32 +117,32 @@ says_later old new (CallSaid operation thread operand location) on is =
     (λ i. Call o (t i) (p i) (l i))
 
 -- the numbers in a list of lines have names
-abbrev AllNumbered : NameLists → List Said → Type 0
-AllNumbered names said = (k : ℕ) (d : Said) → k < length said → IsNumbered names (get_or said k d)
+abbrev AllNumbered : NameLists → List NumberedLine → Type 0
+AllNumbered names lines = (k : ℕ) (d : NumberedLine) → k < length lines → IsNumbered names (get_or lines k d)
 
-pub all_later : (old new : NameLists) (said : List Said) → GoOn old new → AllNumbered old said → AllNumbered new said
-all_later old new said on are k d within = numbered_later old new (get_or said k d) on (are k d within)
+pub all_later : (old new : NameLists) (lines : List NumberedLine) → GoOn old new → AllNumbered old lines → AllNumbered new lines
+all_later old new lines on are k d within = numbered_later old new (get_or lines k d) on (are k d within)
 
-pub map_later : (old new : NameLists) (said : List Said) → GoOn old new → AllNumbered old said → map (shape_in new) said ≡ map (shape_in old) said
+pub map_later : (old new : NameLists) (lines : List NumberedLine) → GoOn old new → AllNumbered old lines → map (shape_in new) lines ≡ map (shape_in old) lines
 map_later old new [] on are = refl
-map_later old new (s ∷ said) on are =
+map_later old new (s ∷ lines) on are =
     let first = says_later old new s on (are 0 s (omega (arith))) in
-    let rest = map_later old new said on (λ k d within. are (suc k) d (omega (arith, within))) in
+    let rest = map_later old new lines on (λ k d within. are (suc k) d (omega (arith, within))) in
     (λ i. first i ∷ rest i)
 
 map_push : {X Y : Type 0} (f : X → Y) (xs : List X) (x : X) → map f (xs ++ x ∷ []) ≡ map f xs ++ f x ∷ []
 map_push f [] x = refl
 map_push f (y ∷ xs) x = ap (λ l. f y ∷ l) (map_push f xs x)
 
-pub all_push : (names : NameLists) (said : List Said) (one : Said) → AllNumbered names said → IsNumbered names one → AllNumbered names (said ++ one ∷ [])
+pub all_push : (names : NameLists) (lines : List NumberedLine) (one : NumberedLine) → AllNumbered names lines → IsNumbered names one → AllNumbered names (lines ++ one ∷ [])
 all_push names [] one are is zero d within = is
 all_push names [] one are is (suc k) d within = absurd (omega (arith, within))
-all_push names (s ∷ said) one are is zero d within = are 0 d (omega arith)
-all_push names (s ∷ said) one are is (suc k) d within = all_push names said one (λ j d low. are (suc j) d (omega (arith, low))) is k d (omega (arith, within))
+all_push names (s ∷ lines) one are is zero d within = are 0 d (omega arith)
+all_push names (s ∷ lines) one are is (suc k) d within = all_push names lines one (λ j d low. are (suc j) d (omega (arith, low))) is k d (omega (arith, within))
 
-pub shapes_push : (old new : NameLists) (said later : List Said) (one : Said) (shape : Shape) → GoOn old new → AllNumbered old said → later ≡ said ++ one ∷ [] → shape_in new one ≡ shape → map (shape_in new) later ≡ map (shape_in old) said ++ shape ∷ []
-shapes_push old new said later one shape on are is says =
-    ap (map (shape_in new)) is ∙ map_push (shape_in new) said one ∙ (λ i. map_later old new said on are i ++ says i ∷ [])
+pub shapes_push : (old new : NameLists) (lines later : List NumberedLine) (one : NumberedLine) (shape : Shape) → GoOn old new → AllNumbered old lines → later ≡ lines ++ one ∷ [] → shape_in new one ≡ shape → map (shape_in new) later ≡ map (shape_in old) lines ++ shape ∷ []
+shapes_push old new lines later one shape on are is says =
+    ap (map (shape_in new)) is ∙ map_push (shape_in new) lines one ∙ (λ i. map_later old new lines on are i ++ says i ∷ [])
 
 -- ---- numbers that are known
 

@@ -16,12 +16,12 @@ use Rattle.gl_std.specs.LineReading.{TELLING, HasGiven}
 use Rattle.gl_std.specs.Lines.{LF, CR, begins_with, ended_lines, lines}
 use Rattle.gl_std.specs.Pieces.{IsFaulty, IsTold}
 use Rattle.gl_std.specs.Trace.{and_then, read_from, trace_of}
-use Rattle.gl_std.specs.bodies.Ahead.{bytes_of, text_of, FailsPiece, GivesOn, HasReadOn, IsShort, JudgesText, OnlyJudges, OnlyReadsAhead, TakesPiece}
+use Rattle.gl_std.specs.bodies.Ahead.{bytes_of, text_of, FailsPiece, GivesOn, HasReadOn, IsShort, JudgesText, OnlyJudges, TakesPiece}
 use Rattle.gl_std.specs.bodies.Blocks.{after_shapes, between, FailsShapes, TakesShapes}
 use Rattle.gl_std.specs.bodies.Taking.{HasEndedLine}
 use Rattle.gl_std.specs.bodies.Telling.{with_judged}
 use Rattle.gl_std.specs.bodies.States.{left_of, HasJudged, Reaches}
-use Rattle.gl_std.specs.bodies.Stepping.{HasFilledBuffer}
+use Rattle.gl_std.specs.bodies.Stepping.{HasFilledBuffer, OnlyReads}
 use Rattle.gl_std.specs.declared.faults.ReadFault.{ReadFault}
 use Rattle.gl_std.specs.declared.faults.ReadFault.TheVariants.{Line}
 use Rattle.gl_std.specs.declared.faults.StdKind.{StdKind}
@@ -287,8 +287,8 @@ read_on_then now mid later a b c before text after failed failed2 ending one two
     by Broke gives = λ turns start text given. subst (λ t. HasRead turns start later failed2 t false) (append_assoc text one.gave two.gave) (gives turns start (text ++ one.gave) (one.gives.1 turns start text given))
 
 -- and nothing was judged
-pub only_ahead_then : (a b c : LineReader) → OnlyReadsAhead a b → OnlyReadsAhead b c → OnlyReadsAhead a c
-only_ahead_then a b c one two = record {
+pub only_reads_then : (a b c : LineReader) → OnlyReads a b → OnlyReads b c → OnlyReads a c
+only_reads_then a b c one two = record {
   same_judge = two.same_judge ∙ one.same_judge;
   same_beginning = two.same_beginning ∙ one.same_beginning;
   same_size = two.same_size ∙ one.same_size;

@@ -8,7 +8,7 @@ ghost use Rattle.gl_std.specs.bodies.Blocks.{shapes_of, AreFew, AreNumbered, IsB
 use crate::line::{Shape, cut, shape_of};
 use crate::line_ends::{LF, ended_lines, next_line};
 use crate::names::Names;
-use crate::said::Said;
+use crate::numbered_line::NumberedLine;
 use crate::seed::Seed;
 use gl_io::CHUNK;
 use std::alloc::{AllocError, Global};
@@ -21,13 +21,13 @@ pub(crate) const LONGEST: usize = 8 * CHUNK;
 /// in the piece.
 pub(crate) struct Block {
     pub(crate) names: Names,
-    pub(crate) said: Vec<Said>,
+    pub(crate) lines: Vec<NumberedLine>,
 }
 
 // Written out, so that it is proved once: a derived drop is proved again wherever a block is let go.
 impl Drop for Block {
     fn drop(self) {
-        let Block { names, said } = self;
+        let Block { names, lines } = self;
     }
 }
 
@@ -37,11 +37,11 @@ impl Block {
         ensures numbered { AreNumbered result }
         ensures few { AreFew result }
         ensures none { shapes_of result ≡ [] }
-        ensures count { vec_len result.said ≡ 0 }
+        ensures count { vec_len result.lines ≡ 0 }
     {
         Block {
             names: Names::new(alloc, seed),
-            said: Vec::new(alloc),
+            lines: Vec::new(alloc),
         }
     }
 
@@ -50,12 +50,12 @@ impl Block {
         ensures numbered { AreNumbered result }
         ensures few { AreFew result }
         ensures none { shapes_of result ≡ [] }
-        ensures count { vec_len result.said ≡ 0 }
+        ensures count { vec_len result.lines ≡ 0 }
     {
         match spare {
             Some(mut block) => {
                 block.names.clear();
-                block.said.clear();
+                block.lines.clear();
                 block
             }
             None => Block::new(alloc, seed),
@@ -89,19 +89,19 @@ impl Block {
         let names = u64::from(self.names.threads())
             + u64::from(self.names.locks())
             + u64::from(self.names.locs());
-        names <= self.said.len() as u64 / 4
+        names <= self.lines.len() as u64 / 4
     }
 
     // Adds the lines of a text.
     fn add_lines(&mut self, alloc: Global, text: &[u8]) -> Result<(), AllocError>
         requires numbered { AreNumbered self.old }
         requires few { AreFew self.old }
-        requires room { vec_len self.old.said + length text.now ≤ LONGEST }
+        requires room { vec_len self.old.lines + length text.now ≤ LONGEST }
         ensures numbered { OnOk result (AreNumbered self.new) }
         ensures lines { OnOk result
             (shapes_of self.new ≡ shapes_of self.old ++ map shape_of (lines text.now)) }
         ensures count { OnOk result
-            (vec_len self.new.said ≡ vec_len self.old.said + length (lines text.now)) }
+            (vec_len self.new.lines ≡ vec_len self.old.lines + length (lines text.now)) }
     {
         let mut rest = text;
         while let Some((line, after)) = next_line(rest) {
@@ -115,15 +115,15 @@ impl Block {
     fn add(&mut self, alloc: Global, line: &[u8]) -> Result<(), AllocError>
         requires numbered { AreNumbered self.old }
         requires few { AreFew self.old }
-        requires room { vec_len self.old.said + 1 ≤ LONGEST }
+        requires room { vec_len self.old.lines + 1 ≤ LONGEST }
         ensures numbered { OnOk result (AreNumbered self.new) }
         ensures few { OnOk result (AreFew self.new) }
-        ensures count { OnOk result (vec_len self.new.said ≡ vec_len self.old.said + 1) }
+        ensures count { OnOk result (vec_len self.new.lines ≡ vec_len self.old.lines + 1) }
         ensures line { OnOk result
             (shapes_of self.new ≡ shapes_of self.old ++ shape_of line.now ∷ []) }
     {
-        let said = self.names.said_of(alloc, shape_of(line))?;
-        self.said.push(said)?;
+        let numbered = self.names.number_shape(alloc, shape_of(line))?;
+        self.lines.push(numbered)?;
         Ok(())
     }
 }

@@ -51,7 +51,7 @@ impl Judge {
     ghost use Rattle.gl_std.specs.Line.{is_on_itself};
     ghost use Rattle.gl_std.specs.bodies.Counting.{count_of};
     ghost use Rattle.gl_std.specs.bodies.States.{HasJudged, IsSound};
-    ghost use Rattle.gl_std.specs.bodies.Judgements.{AreApart, JudgesLine};
+    ghost use Rattle.gl_std.specs.bodies.Judgements.{AreApart, HasCountedEvent, HasCountedLine, JudgesLine};
     ghost use Rattle.gl_std.specs.bodies.Rulings.{if_stray, judged_by};
     ghost use Rattle.gl_std.specs.bodies.Finding.{found_in, limit_found};
     ghost use Rattle.gl_std.specs.bodies.Shown.{shown};
@@ -101,9 +101,7 @@ impl Judge {
         requires countable { self.old.line + 1 < 2 ^ 64 }
         ensures judges { JudgesLine self.old self.new
             (λ told. after_shape self.old.limits self.old.line told (shown shape.entry)) result }
-        ensures line { self.new.line ≡ self.old.line }
-        ensures few_skipped { self.new.skipped ≤ self.old.skipped + 1 }
-        ensures few_stray { self.new.stray ≤ self.old.stray + 1 }
+        ensures counts { HasCountedLine self.old self.new }
     {
         match shape {
             Shape::Blank => Ok(Judged::Blank),
@@ -138,9 +136,7 @@ impl Judge {
         ensures judges { JudgesLine self.old self.new
             (λ told. after_call self.old.limits self.old.line told
             (shown_operation operation) thread.now operand.now location.now) result }
-        ensures line { self.new.line ≡ self.old.line }
-        ensures few_skipped { self.new.skipped ≡ self.old.skipped }
-        ensures few_stray { self.new.stray ≤ self.old.stray + 1 }
+        ensures counts { HasCountedEvent self.old self.new }
     {
         let found = self.find(operation, thread, operand, location);
         if let (Some(own), Some(number), Some(loc)) = (found.thread, found.operand, found.loc) {
@@ -166,9 +162,7 @@ impl Judge {
         ensures judges { JudgesLine self.old self.new
             (λ told. after_call self.old.limits self.old.line told
             (shown_operation operation) thread.now operand.now location.now) result }
-        ensures line { self.new.line ≡ self.old.line }
-        ensures few_skipped { self.new.skipped ≡ self.old.skipped }
-        ensures few_stray { self.new.stray ≤ self.old.stray + 1 }
+        ensures counts { HasCountedEvent self.old self.new }
     {
         let alloc = self.alloc;
         self.latest = found.thread;

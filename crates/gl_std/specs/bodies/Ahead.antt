@@ -11,6 +11,7 @@ use Rattle.gl_std.specs.LineReading.{HasGiven}
 use Rattle.gl_std.specs.Pieces.{IsFaulty}
 use Rattle.gl_std.specs.bodies.Blocks.{IsBlockOf}
 use Rattle.gl_std.specs.bodies.States.{IsSound, Reaches}
+use Rattle.gl_std.specs.bodies.Stepping.{OnlyReads}
 use Rattle.gl_std.specs.declared.block.TheConstants.{LONGEST}
 use Rattle.gl_std.specs.declared.faults.ReadFault.{ReadFault}
 use Rattle.gl_std.specs.declared.faults.ReadFault.TheVariants.{Line}
@@ -74,6 +75,27 @@ pub record HasReadOn (now : Position) (old : LineReader) (before : List ℕ) (la
   pub gives : GivesOn now old later failed new gave ending
   pub within : length gave + turns_left new ending * CHUNK ≤ old.turns * CHUNK
 
+-- it was added to what is short, as this says, and nothing was judged; where there may be more, fewer reads are left
+pub record HasReadAhead (now : Position) (old : LineReader) (before : List ℕ) (later : Position)
+    (failed : Bool) (new : LineReader) (after : List ℕ) (are_short : Type 0) (ending : Ending)
+    : Type 0 where
+  pub reads : HasReadOn now old before later failed new after ending
+  pub only : OnlyReads old new
+  pub short : are_short
+  pub fewer : ending ≡ More → new.turns < old.turns
+
+-- what the reads gave was added to a piece
+abbrev pub HasFilledPiece : Position → LineReader → Piece → Position → Bool → LineReader → Piece
+    → Ending → Type 0
+HasFilledPiece now old before later failed new after ending =
+    HasReadAhead now old (bytes_of before) later failed new (bytes_of after) (IsShort after) ending
+
+-- what the reads gave are pieces, which were added to these
+abbrev pub HasAddedPieces : Position → LineReader → List Piece → Position → Bool → LineReader
+    → List Piece → Ending → Type 0
+HasAddedPieces now old before later failed new after ending =
+    HasReadAhead now old (text_of before) later failed new (text_of after) (AreShort after) ending
+
 -- the next pieces were read and cut
 pub record HasReadPieces (now : Position) (old : LineReader) (later : Position) (failed : Bool)
     (new : LineReader) (pieces : List Piece) (ending : Ending) : Type 0 where
@@ -82,12 +104,6 @@ pub record HasReadPieces (now : Position) (old : LineReader) (later : Position) 
   pub cut : AreCut pieces
   pub short : AreShort pieces
   pub fewer : ending ≡ More → new.turns < old.turns
-
--- nothing was judged
-pub record OnlyReadsAhead (old new : LineReader) : Type 0 where
-  pub same_judge : new.judge ≡ old.judge
-  pub same_beginning : new.unfinished ≡ old.unfinished
-  pub same_size : vec_len new.buffer ≡ vec_len old.buffer
 
 -- ---- what is judged
 

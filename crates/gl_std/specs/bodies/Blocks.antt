@@ -18,8 +18,8 @@ use Rattle.gl_std.specs.declared.faults.ReadFault.TheVariants.{Line}
 use Rattle.gl_std.specs.declared.faults.StdKind.{StdKind}
 use Rattle.gl_std.specs.declared.judge.Judge.{Judge}
 use Rattle.gl_std.specs.declared.names.known.Known.{Known}
-use Rattle.gl_std.specs.declared.said.Said.{Said}
-use Rattle.gl_std.specs.declared.said.Said.TheVariants.{Blank as BlankSaid, Bad as BadSaid, Other as OtherSaid, Call as CallSaid}
+use Rattle.gl_std.specs.declared.numbered_line.NumberedLine.{NumberedLine}
+use Rattle.gl_std.specs.declared.numbered_line.NumberedLine.TheVariants.{Blank as NumberedBlank, Bad as NumberedBad, Other as NumberedOther, Call as NumberedCall}
 use Rattle.gl_std.specs.declared.trace.Trace.{Trace}
 
 -- ---- what a block says
@@ -29,30 +29,30 @@ abbrev pub named : List (List ℕ) → ℕ → List ℕ
 named names number = slice_index_or names number []
 
 -- what a line says, where its names have these numbers
-abbrev pub shape_in : NameLists → Said → Shape
-shape_in names BlankSaid = Blank
-shape_in names (BadSaid kind) = Bad kind
-shape_in names OtherSaid = Other
-shape_in names (CallSaid operation thread operand location) =
+abbrev pub shape_in : NameLists → NumberedLine → Shape
+shape_in names NumberedBlank = Blank
+shape_in names (NumberedBad kind) = Bad kind
+shape_in names NumberedOther = Other
+shape_in names (NumberedCall operation thread operand location) =
     Call (shown_operation operation) (named names.threads thread)
     (named (operands (shown_operation operation) names) operand) (named names.locs location)
 
 -- what the lines of a block say
 abbrev pub shapes_of : Block → List Shape
-shapes_of block = map (shape_in block.names) block.said.items
+shapes_of block = map (shape_in block.names) block.lines.items
 
 -- each number in it has a name
-abbrev pub IsNumbered : NameLists → Said → Type 0
-IsNumbered names BlankSaid = Unit {0}
-IsNumbered names (BadSaid kind) = Unit {0}
-IsNumbered names OtherSaid = Unit {0}
-IsNumbered names (CallSaid operation thread operand location) =
+abbrev pub IsNumbered : NameLists → NumberedLine → Type 0
+IsNumbered names NumberedBlank = Unit {0}
+IsNumbered names (NumberedBad kind) = Unit {0}
+IsNumbered names NumberedOther = Unit {0}
+IsNumbered names (NumberedCall operation thread operand location) =
     (thread < length names.threads)
     × (operand < length (operands (shown_operation operation) names))
     × (location < length names.locs)
 
 abbrev pub AreNumbered : Block → Type 0
-AreNumbered block = All (IsNumbered block.names) block.said.items
+AreNumbered block = All (IsNumbered block.names) block.lines.items
 
 -- what stands between the first LF of a piece and its last one: the lines that it has whole
 abbrev pub between : List ℕ → List ℕ
@@ -62,7 +62,7 @@ between piece = option_map_or (λ parts. ended_lines parts.1) (cut_at LF piece) 
 pub record IsBlockOf (piece : List ℕ) (block : Block) : Type 0 where
   pub numbered : AreNumbered block
   pub says : shapes_of block ≡ map shape_of (lines (between piece))
-  pub count : vec_len block.said ≡ length (lines (between piece))
+  pub count : vec_len block.lines ≡ length (lines (between piece))
 
 -- ---- names of a block
 
@@ -80,9 +80,9 @@ pub record AddsFew (old new : NameLists) : Type 0 where
 
 -- there are no more names than its lines have
 pub record AreFew (block : Block) : Type 0 where
-  pub threads : length block.names.threads ≤ 2 * vec_len block.said
-  pub locks : length block.names.locks ≤ vec_len block.said
-  pub locs : length block.names.locs ≤ vec_len block.said
+  pub threads : length block.names.threads ≤ 2 * vec_len block.lines
+  pub locks : length block.names.locks ≤ vec_len block.lines
+  pub locs : length block.names.locs ≤ vec_len block.lines
 
 -- ---- and their numbers in the text
 

@@ -1,5 +1,5 @@
 -- What a judged line does to each trace that a judge stands for.
-use Rattle.std.specs.Prelude.{◌≡◌, ℕ, false, Result, Ok, Err, IfOk, length}
+use Rattle.std.specs.Prelude.{◌≡◌, ◌+◌, ◌≤◌, ℕ, false, Result, Ok, Err, IfOk, length}
 use Rattle.gl_std.specs.Line.{Shape, is_on_itself}
 use Rattle.gl_std.specs.Line.Shape.{Blank, Bad, Other, Call}
 use Rattle.gl_std.specs.bodies.States.{HasJudged}
@@ -34,6 +34,18 @@ pub record JudgesLine (old new : Judge) (after : Trace → Result Trace ReadFaul
   -- a line is at fault only where it is after each trace that the judge stands for
   pub fault : FailsAs old after result
   pub same_limits : new.limits ≡ old.limits
+
+-- the judge has counted one line more, at most once as skipped and at most once as a stray: it is still the judge's line
+pub record HasCountedLine (old new : Judge) : Type 0 where
+  pub line : new.line ≡ old.line
+  pub few_skipped : new.skipped ≤ old.skipped + 1
+  pub few_stray : new.stray ≤ old.stray + 1
+
+-- the same of a line that tells an event: it isn't skipped
+pub record HasCountedEvent (old new : Judge) : Type 0 where
+  pub line : new.line ≡ old.line
+  pub none_skipped : new.skipped ≡ old.skipped
+  pub few_stray : new.stray ≤ old.stray + 1
 
 -- no thread forks or joins itself, if this is what a line says
 abbrev pub AreApart : Shape → Type 0

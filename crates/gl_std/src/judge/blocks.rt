@@ -4,10 +4,10 @@ ghost use Rattle.gl_std.specs.Line.{is_on_itself};
 ghost use Rattle.gl_std.specs.Trace.{after_shape, operands};
 ghost use Rattle.gl_std.specs.bodies.Blocks.{named, shape_in, shapes_of, AreNumbered, FailsShapes, IsKnownOf, IsNumbered, TakesShapes};
 ghost use Rattle.gl_std.specs.bodies.Finding.{found_in};
-ghost use Rattle.gl_std.specs.bodies.Judgements.{AreApart, JudgesLine};
+ghost use Rattle.gl_std.specs.bodies.Judgements.{AreApart, HasCountedEvent, HasCountedLine, JudgesLine};
 ghost use Rattle.gl_std.specs.bodies.Shown.{shown_operation};
 ghost use Rattle.gl_std.specs.bodies.States.{IsSound};
-ghost use Rattle.gl_std.specs.declared.said.Said.TheVariants.{Call as CallSaid};
+ghost use Rattle.gl_std.specs.declared.numbered_line.NumberedLine.TheVariants.{Call as NumberedCall};
 
 use super::{Judge, Judged};
 use crate::block::Block;
@@ -15,7 +15,7 @@ use crate::faults::ReadFault;
 use crate::line::Operation;
 use crate::lists::Lists;
 use crate::names::{Found, Known, Names};
-use crate::said::Said;
+use crate::numbered_line::NumberedLine;
 use gl_event::{LocId, ThreadId};
 use std::alloc::Global;
 
@@ -31,45 +31,45 @@ impl Judge {
         requires sound { IsSound self.old }
         requires numbered { AreNumbered block.now }
         requires apart { All AreApart (shapes_of block.now) }
-        requires countable { self.old.line + vec_len block.now.said + 1 < 2 ^ 64 }
+        requires countable { self.old.line + vec_len block.now.lines + 1 < 2 ^ 64 }
         ensures tells { OnOk result
             (TakesShapes self.old lists.old (shapes_of block.now) self.new lists.new) }
         ensures fault { FailsShapes self.old lists.old (shapes_of block.now) result }
         ensures sound { OnOk result (IsSound self.new) }
         ensures limits { self.new.limits ≡ self.old.limits }
-        ensures line { OnOk result (self.new.line ≡ self.old.line + vec_len block.now.said) }
+        ensures line { OnOk result (self.new.line ≡ self.old.line + vec_len block.now.lines) }
     {
         let mut known = Known::new(alloc, &block.names)?;
-        for i in 0..block.said.len() {
-            self.take_said(alloc, lists, &block.names, &mut known, block.said[i])?;
+        for i in 0..block.lines.len() {
+            self.take_numbered(alloc, lists, &block.names, &mut known, block.lines[i])?;
         }
         Ok(())
     }
 
     // Takes what a line says.
     #[inline(always)]
-    fn take_said(
+    fn take_numbered(
         &mut self,
         alloc: Global,
         lists: &mut Lists,
         names: &Names,
         known: &mut Known,
-        said: Said,
+        line: NumberedLine,
     ) -> Result<(), ReadFault>
         requires sound { IsSound self.old }
-        requires numbered { IsNumbered names.now said }
-        requires apart { AreApart (shape_in names.now said) }
+        requires numbered { IsNumbered names.now line }
+        requires apart { AreApart (shape_in names.now line) }
         requires known { IsKnownOf names.now self.old.names known.old }
         requires countable { self.old.line + 1 < 2 ^ 64 }
         ensures tells { OnOk result
-            (TakesShapes self.old lists.old (shape_in names.now said ∷ []) self.new lists.new) }
-        ensures fault { FailsShapes self.old lists.old (shape_in names.now said ∷ []) result }
+            (TakesShapes self.old lists.old (shape_in names.now line ∷ []) self.new lists.new) }
+        ensures fault { FailsShapes self.old lists.old (shape_in names.now line ∷ []) result }
         ensures known { OnOk result (IsKnownOf names.now self.new.names known.new) }
         ensures sound { OnOk result (IsSound self.new) }
         ensures limits { self.new.limits ≡ self.old.limits }
         ensures line { OnOk result (self.new.line ≡ self.old.line + 1) }
     {
-        let judged = self.judge_said(names, known, said)?;
+        let judged = self.judge_numbered(names, known, line)?;
         self.line += 1;
         lists.add(alloc, &self.names, judged)?;
         Ok(())
@@ -77,36 +77,34 @@ impl Judge {
 
     // What a line is that says this.
     #[inline(always)]
-    fn judge_said(
+    fn judge_numbered(
         &mut self,
         names: &Names,
         known: &mut Known,
-        said: Said,
+        line: NumberedLine,
     ) -> Result<Judged, ReadFault>
         requires sound { IsSound self.old }
-        requires numbered { IsNumbered names.now said }
-        requires apart { AreApart (shape_in names.now said) }
+        requires numbered { IsNumbered names.now line }
+        requires apart { AreApart (shape_in names.now line) }
         requires known { IsKnownOf names.now self.old.names known.old }
         requires countable { self.old.line + 1 < 2 ^ 64 }
         ensures judges { JudgesLine self.old self.new
-            (λ told. after_shape self.old.limits self.old.line told (shape_in names.now said))
+            (λ told. after_shape self.old.limits self.old.line told (shape_in names.now line))
             result }
         ensures known { IsKnownOf names.now self.old.names known.new }
-        ensures line { self.new.line ≡ self.old.line }
-        ensures few_skipped { self.new.skipped ≤ self.old.skipped + 1 }
-        ensures few_stray { self.new.stray ≤ self.old.stray + 1 }
+        ensures counts { HasCountedLine self.old self.new }
     {
-        match said {
-            Said::Blank => Ok(Judged::Blank),
-            Said::Bad(kind) => Err(ReadFault::Line {
+        match line {
+            NumberedLine::Blank => Ok(Judged::Blank),
+            NumberedLine::Bad(kind) => Err(ReadFault::Line {
                 line: self.line,
                 kind,
             }),
-            Said::Other => {
+            NumberedLine::Other => {
                 self.skipped += 1;
                 Ok(Judged::Skipped)
             }
-            Said::Call {
+            NumberedLine::Call {
                 operation,
                 thread,
                 operand,
@@ -115,7 +113,7 @@ impl Judge {
         }
     }
 
-    // `judge_said`, for a line that tells an event.
+    // `judge_numbered`, for a line that tells an event.
     #[inline(always)]
     fn judge_call(
         &mut self,
@@ -127,20 +125,18 @@ impl Judge {
         location: LocId,
     ) -> Result<Judged, ReadFault>
         requires sound { IsSound self.old }
-        requires numbered { IsNumbered names.now (CallSaid operation thread operand location) }
+        requires numbered { IsNumbered names.now (NumberedCall operation thread operand location) }
         requires apart { AreApart
-            (shape_in names.now (CallSaid operation thread operand location)) }
+            (shape_in names.now (NumberedCall operation thread operand location)) }
         requires known { IsKnownOf names.now self.old.names known.old }
         requires countable { self.old.line + 1 < 2 ^ 64 }
         ensures judges { JudgesLine self.old self.new
             (λ told. after_shape self.old.limits self.old.line told
-            (shape_in names.now (CallSaid operation thread operand location))) result }
+            (shape_in names.now (NumberedCall operation thread operand location))) result }
         ensures known { IsKnownOf names.now self.old.names known.new }
-        ensures line { self.new.line ≡ self.old.line }
-        ensures few_skipped { self.new.skipped ≤ self.old.skipped + 1 }
-        ensures few_stray { self.new.stray ≤ self.old.stray + 1 }
+        ensures counts { HasCountedEvent self.old self.new }
     {
-        let found = self.find_said(names, known, operation, thread, operand, location);
+        let found = self.find_numbered(names, known, operation, thread, operand, location);
         if let (Some(own), Some(number), Some(loc)) = (found.thread, found.operand, found.loc) {
             return self.take_known(operation, own, number, loc);
         }
@@ -155,7 +151,7 @@ impl Judge {
 
     // The numbers here of the names that have these in a block. None is looked up that was known before.
     #[inline(always)]
-    fn find_said(
+    fn find_numbered(
         &mut self,
         names: &Names,
         known: &mut Known,
@@ -164,7 +160,7 @@ impl Judge {
         operand: u32,
         location: LocId,
     ) -> Found
-        requires numbered { IsNumbered names.now (CallSaid operation thread operand location) }
+        requires numbered { IsNumbered names.now (NumberedCall operation thread operand location) }
         requires apart { is_on_itself (shown_operation operation) (named names.now.threads thread)
             (named (operands (shown_operation operation) names.now) operand) ≡ false }
         requires known { IsKnownOf names.now self.old.names known.old }

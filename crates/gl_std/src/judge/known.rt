@@ -3,7 +3,7 @@ ghost use Rattle.std.specs.Prelude.{◌≡◌, ℕ, ◌+◌, ◌^◌, ◌<◌, �
 ghost use Rattle.gl_std.specs.Trace.{after_call};
 ghost use Rattle.gl_std.specs.bodies.Counting.{count_of};
 ghost use Rattle.gl_std.specs.bodies.Finding.{AreFoundAt};
-ghost use Rattle.gl_std.specs.bodies.Judgements.{JudgesLine};
+ghost use Rattle.gl_std.specs.bodies.Judgements.{HasCountedEvent, JudgesLine};
 ghost use Rattle.gl_std.specs.bodies.Shown.{shown_operation};
 ghost use Rattle.gl_std.specs.bodies.States.{IsSound};
 ghost use Rattle.gl_std.specs.declared.faults.StdKind.TheVariants.{TooManyEvents};
@@ -32,9 +32,7 @@ impl Judge {
             → JudgesLine self.old self.new
             (λ told. after_call self.old.limits self.old.line told
             (shown_operation operation) t o l) result }
-        ensures line { self.new.line ≡ self.old.line }
-        ensures few_skipped { self.new.skipped ≡ self.old.skipped }
-        ensures few_stray { self.new.stray ≤ self.old.stray + 1 }
+        ensures counts { HasCountedEvent self.old self.new }
     {
         self.latest = Some(thread);
         let found = Found {

@@ -1,10 +1,10 @@
 //! Reading ahead: what the reads give is cut into lines before it is judged.
-ghost use Rattle.std.specs.Prelude.{◌≡◌, ◌+◌, ◌^◌, ◌<◌, ◌≤◌, List, [], ◌∷◌, ◌++◌, Contains, false, length, Ok, Some, vec_len, IfOk, IfSome, OnOk};
+ghost use Rattle.std.specs.Prelude.{◌≡◌, ◌+◌, ◌^◌, ◌<◌, ◌≤◌, List, [], ◌∷◌, ◌++◌, Contains, false, length, Ok, Some, vec_len, IfOk, IfSome};
 ghost use Rattle.gl_event.specs.declared.events.Event.{Event};
 ghost use Rattle.gl_io.specs.declared.source.TheConstants.{CHUNK};
 ghost use Rattle.gl_std.specs.Line.{cut_at};
 ghost use Rattle.gl_std.specs.Lines.{LF};
-ghost use Rattle.gl_std.specs.bodies.Ahead.{bytes_of, text_of, AreShort, CanJudge, CanJudgeText, HasGoneOn, HasReadOn, IsCut, IsShort, JudgesText, OnlyReadsAhead};
+ghost use Rattle.gl_std.specs.bodies.Ahead.{bytes_of, text_of, AreShort, CanJudge, CanJudgeText, HasAddedPieces, HasFilledPiece, HasGoneOn, IsCut, IsShort, JudgesText};
 ghost use Rattle.gl_std.specs.bodies.Blocks.{IsBlockOf};
 ghost use Rattle.gl_std.specs.bodies.States.{IsSound};
 ghost use Rattle.gl_std.specs.declared.block.TheConstants.{LONGEST};
@@ -120,12 +120,9 @@ impl LineReader {
         requires not_failed { R.failed input.old ≡ false }
         requires short { AreShort pieces.old.items }
         requires few { vec_len pieces.old < most }
-        ensures reads { IfOk result
-            (HasReadOn (R.position input.old) self.old (text_of pieces.old.items)
-            (R.position input.new) (R.failed input.new) self.new (text_of pieces.new.items)) }
-        ensures only { OnOk result (OnlyReadsAhead self.old self.new) }
-        ensures short { OnOk result (AreShort pieces.new.items) }
-        ensures fewer { result ≡ Ok More → self.new.turns < self.old.turns }
+        ensures { IfOk result
+            (HasAddedPieces (R.position input.old) self.old pieces.old.items
+            (R.position input.new) (R.failed input.new) self.new pieces.new.items) }
     {
         loop {
             match self.read_piece(alloc, input, spare, pieces)? {
@@ -149,12 +146,9 @@ impl LineReader {
         requires room { vec_len self.old.buffer ≡ CHUNK }
         requires not_failed { R.failed input.old ≡ false }
         requires short { AreShort pieces.old.items }
-        ensures reads { IfOk result
-            (HasReadOn (R.position input.old) self.old (text_of pieces.old.items)
-            (R.position input.new) (R.failed input.new) self.new (text_of pieces.new.items)) }
-        ensures only { OnOk result (OnlyReadsAhead self.old self.new) }
-        ensures short { OnOk result (AreShort pieces.new.items) }
-        ensures fewer { result ≡ Ok More → self.new.turns < self.old.turns }
+        ensures adds { IfOk result
+            (HasAddedPieces (R.position input.old) self.old pieces.old.items
+            (R.position input.new) (R.failed input.new) self.new pieces.new.items) }
         ensures one { result ≡ Ok More → vec_len pieces.new ≡ vec_len pieces.old + 1 }
     {
         let mut piece = Piece::empty(alloc, spare);
@@ -172,12 +166,9 @@ impl LineReader {
         requires room { vec_len self.old.buffer ≡ CHUNK }
         requires not_failed { R.failed input.old ≡ false }
         requires none { bytes_of piece.old ≡ [] }
-        ensures reads { IfOk result
-            (HasReadOn (R.position input.old) self.old (bytes_of piece.old)
-            (R.position input.new) (R.failed input.new) self.new (bytes_of piece.new)) }
-        ensures only { OnOk result (OnlyReadsAhead self.old self.new) }
-        ensures short { OnOk result (IsShort piece.new) }
-        ensures fewer { result ≡ Ok More → self.new.turns < self.old.turns }
+        ensures { IfOk result
+            (HasFilledPiece (R.position input.old) self.old piece.old
+            (R.position input.new) (R.failed input.new) self.new piece.new) }
     {
         loop {
             match self.read_more(input, piece)? {
@@ -199,12 +190,9 @@ impl LineReader {
         requires room { vec_len self.old.buffer ≡ CHUNK }
         requires not_failed { R.failed input.old ≡ false }
         requires short { length (bytes_of piece.old) + CHUNK ≤ LONGEST }
-        ensures reads { IfOk result
-            (HasReadOn (R.position input.old) self.old (bytes_of piece.old)
-            (R.position input.new) (R.failed input.new) self.new (bytes_of piece.new)) }
-        ensures only { OnOk result (OnlyReadsAhead self.old self.new) }
-        ensures short { OnOk result (IsShort piece.new) }
-        ensures fewer { result ≡ Ok More → self.new.turns < self.old.turns }
+        ensures { IfOk result
+            (HasFilledPiece (R.position input.old) self.old piece.old
+            (R.position input.new) (R.failed input.new) self.new piece.new) }
     {
         if self.turns == 0 {
             return Ok(Ending::Broke);

@@ -9,7 +9,7 @@ ghost use Rattle.gl_std.specs.bodies.Shown.{shown, shown_operation};
 
 use super::{NameList, Names};
 use crate::line::{Operation, Shape};
-use crate::said::Said;
+use crate::numbered_line::NumberedLine;
 use gl_event::{LocId, ThreadId};
 use std::alloc::{AllocError, Global};
 
@@ -34,19 +34,23 @@ impl NameList {
 impl Names {
     /// What a line says, by the numbers of its names. A new name gets the next number.
     #[inline(always)]
-    pub(crate) fn said_of(&mut self, alloc: Global, shape: Shape<'_>) -> Result<Said, AllocError>
+    pub(crate) fn number_shape(
+        &mut self,
+        alloc: Global,
+        shape: Shape<'_>,
+    ) -> Result<NumberedLine, AllocError>
         requires threads { length self.old.threads + 2 < 2 ^ 32 }
         requires locks { length self.old.locks + 1 < 2 ^ 32 }
         requires locs { length self.old.locs + 1 < 2 ^ 32 }
         ensures numbered { IfOk result (IsNumbered self.new) }
-        ensures says { IfOk result (λ said. shape_in self.new said ≡ shown shape.entry) }
+        ensures says { IfOk result (λ line. shape_in self.new line ≡ shown shape.entry) }
         ensures go_on { OnOk result (GoOn self.old self.new) }
         ensures few { OnOk result (AddsFew self.old self.new) }
     {
         match shape {
-            Shape::Blank => Ok(Said::Blank),
-            Shape::Bad(kind) => Ok(Said::Bad(kind)),
-            Shape::Other => Ok(Said::Other),
+            Shape::Blank => Ok(NumberedLine::Blank),
+            Shape::Bad(kind) => Ok(NumberedLine::Bad(kind)),
+            Shape::Other => Ok(NumberedLine::Other),
             Shape::Call {
                 operation,
                 thread,
@@ -56,7 +60,7 @@ impl Names {
         }
     }
 
-    // `said_of`, for a line that tells an event.
+    // `number_shape`, for a line that tells an event.
     #[inline(always)]
     fn number_call(
         &mut self,
@@ -65,13 +69,13 @@ impl Names {
         thread: &[u8],
         operand: &[u8],
         location: &[u8],
-    ) -> Result<Said, AllocError>
+    ) -> Result<NumberedLine, AllocError>
         requires threads { length self.old.threads + 2 < 2 ^ 32 }
         requires locks { length self.old.locks + 1 < 2 ^ 32 }
         requires locs { length self.old.locs + 1 < 2 ^ 32 }
         ensures numbered { IfOk result (IsNumbered self.new) }
         ensures says { IfOk result
-            (λ said. shape_in self.new said
+            (λ line. shape_in self.new line
             ≡ Call (shown_operation operation) thread.now operand.now location.now) }
         ensures go_on { OnOk result (GoOn self.old self.new) }
         ensures few { OnOk result (AddsFew self.old self.new) }
@@ -79,7 +83,7 @@ impl Names {
         let thread = self.threads.number_again(alloc, thread)?;
         let location = self.locs.number_again(alloc, location)?;
         let operand = self.number_operand(alloc, operation, operand)?;
-        Ok(Said::Call {
+        Ok(NumberedLine::Call {
             operation,
             thread: ThreadId::new(thread),
             operand,

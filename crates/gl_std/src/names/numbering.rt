@@ -1,8 +1,6 @@
 //! Names that get their numbers without a text.
-ghost use Rattle.std.specs.Prelude.{◌≡◌, ◌+◌, ◌^◌, Some, None, Err, length, position, IfOk, OnOk, OnErr};
-ghost use Rattle.std.specs.Str.{bytes_eq};
-ghost use Rattle.gl_std.specs.Names.{number_of, with_new};
-ghost use Rattle.gl_std.specs.declared.names.numbering.NamesFault.TheVariants.{Full};
+ghost use Rattle.std.specs.Prelude.{◌≡◌};
+ghost use Rattle.gl_std.specs.Names.{HasNumbered};
 
 use super::{NameList, Names};
 use gl_event::{LocId, LockId, ThreadId};
@@ -21,15 +19,7 @@ pub enum NamesFault {
 impl NameList {
     // The name's number. A new name gets the next one.
     fn number(&mut self, alloc: Global, name: &[u8]) -> Result<u32, NamesFault>
-        ensures number { IfOk result (λ number. number ≡ number_of self.old name.now) }
-        ensures names { OnOk result (self.new ≡ with_new self.old name.now) }
-        ensures same { OnErr result (self.new ≡ self.old) }
-        ensures full { result ≡ Err Full
-            → (position (bytes_eq name.now) self.old ≡ None)
-            × (length self.old + 1 ≡ 2 ^ 32) }
-        ensures room { position (bytes_eq name.now) self.old ≡ None
-            → length self.old + 1 ≡ 2 ^ 32
-            → result ≡ Err Full }
+        ensures { HasNumbered self.old name.now self.new result }
     {
         if let Some(number) = self.find(name) {
             return Ok(number);
@@ -50,15 +40,8 @@ impl Names {
     ///
     /// Err where there is no number left, and where memory was refused: the names are as they were.
     pub fn number_thread(&mut self, alloc: Global, name: &[u8]) -> Result<ThreadId, NamesFault>
-        ensures number { IfOk result (λ number. number ≡ number_of self.old.threads name.now) }
-        ensures names { OnOk result (self.new.threads ≡ with_new self.old.threads name.now) }
+        ensures numbered { HasNumbered self.old.threads name.now self.new.threads result }
         ensures others { self.new ≡ record self.old { threads = self.new.threads } }
-        ensures same { OnErr result (self.new ≡ self.old) }
-        ensures full { result ≡ Err Full
-            → (position (bytes_eq name.now) self.old.threads ≡ None)
-            × (length self.old.threads + 1 ≡ 2 ^ 32) }
-        ensures room { position (bytes_eq name.now) self.old.threads ≡ None
-            → length self.old.threads + 1 ≡ 2 ^ 32 → result ≡ Err Full }
     {
         match self.threads.number(alloc, name) {
             Ok(number) => Ok(ThreadId::new(number)),
@@ -70,15 +53,8 @@ impl Names {
     ///
     /// Err where there is no number left, and where memory was refused: the names are as they were.
     pub fn number_lock(&mut self, alloc: Global, name: &[u8]) -> Result<LockId, NamesFault>
-        ensures number { IfOk result (λ number. number ≡ number_of self.old.locks name.now) }
-        ensures names { OnOk result (self.new.locks ≡ with_new self.old.locks name.now) }
+        ensures numbered { HasNumbered self.old.locks name.now self.new.locks result }
         ensures others { self.new ≡ record self.old { locks = self.new.locks } }
-        ensures same { OnErr result (self.new ≡ self.old) }
-        ensures full { result ≡ Err Full
-            → (position (bytes_eq name.now) self.old.locks ≡ None)
-            × (length self.old.locks + 1 ≡ 2 ^ 32) }
-        ensures room { position (bytes_eq name.now) self.old.locks ≡ None
-            → length self.old.locks + 1 ≡ 2 ^ 32 → result ≡ Err Full }
     {
         match self.locks.number(alloc, name) {
             Ok(number) => Ok(LockId::new(number)),
@@ -91,15 +67,8 @@ impl Names {
     ///
     /// Err where there is no number left, and where memory was refused: the names are as they were.
     pub fn number_loc(&mut self, alloc: Global, name: &[u8]) -> Result<LocId, NamesFault>
-        ensures number { IfOk result (λ number. number ≡ number_of self.old.locs name.now) }
-        ensures names { OnOk result (self.new.locs ≡ with_new self.old.locs name.now) }
+        ensures numbered { HasNumbered self.old.locs name.now self.new.locs result }
         ensures others { self.new ≡ record self.old { locs = self.new.locs } }
-        ensures same { OnErr result (self.new ≡ self.old) }
-        ensures full { result ≡ Err Full
-            → (position (bytes_eq name.now) self.old.locs ≡ None)
-            × (length self.old.locs + 1 ≡ 2 ^ 32) }
-        ensures room { position (bytes_eq name.now) self.old.locs ≡ None
-            → length self.old.locs + 1 ≡ 2 ^ 32 → result ≡ Err Full }
     {
         match self.locs.number(alloc, name) {
             Ok(number) => Ok(LocId::new(number)),

@@ -11,9 +11,9 @@ invariant-loop-line l =
     record {
       numbered : AreNumbered l.self;
       few : AreFew l.self;
-      room : vec_len l.self.said + length l.rest ≤ LONGEST;
+      room : vec_len l.self.lines + length l.rest ≤ LONGEST;
       says : shapes_of l.self ++ map shape_of (lines l.rest) ≡ shapes_of l.initial.self ++ map shape_of (lines l.text);
-      count : vec_len l.self.said + length (lines l.rest) ≡ vec_len l.initial.self.said + length (lines l.text);
+      count : vec_len l.self.lines + length (lines l.rest) ≡ vec_len l.initial.self.lines + length (lines l.text);
     }
 
 abbrev pub decreases-loop-line : goal.decreases-loop-line

@@ -1,4 +1,3 @@
-use Rattle.std.proofs.Common.{Ok, ap}
 use Rattle.gl_std.proofs.HeardAhead.{no_piece_short, read_cut}
 use Rattle.gl_std.proofs.from_source.parallel.read_and_cut.Goals as goal
 
@@ -8,7 +7,7 @@ returns g c = record {
   same_size = c.in_ok-ending.ensures.only.same_size;
   cut = c.cut_pieces.ensures.cut;
   short = c.cut_pieces.ensures.short;
-  fewer = λ more. c.in_ok-ending.ensures.fewer (ap (λ e. Ok e) more);
+  fewer = c.in_ok-ending.ensures.fewer;
 }
 
 pub read_ahead-requires-clause-short : goal.read_ahead-requires-clause-short

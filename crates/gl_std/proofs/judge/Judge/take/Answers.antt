@@ -19,5 +19,5 @@ returns-clause-sound c =
     sound_of _ told (record { names = judged.names; states = judged.states; skipped = judged.skipped; stray = judged.stray })
     (subst (λ limits. IsTraceOver limits told) (sym judges.same_limits) over)
     (subst AreWithinRange (sym judges.same_limits) was.in_range)
-    (omega (arith, was.few_skipped, c.take_shape.ensures.few_skipped, c.take_shape.ensures.line))
-    (omega (arith, was.few_stray, c.take_shape.ensures.few_stray, c.take_shape.ensures.line))
+    (omega (arith, was.few_skipped, c.take_shape.ensures.counts.few_skipped, c.take_shape.ensures.counts.line))
+    (omega (arith, was.few_stray, c.take_shape.ensures.counts.few_stray, c.take_shape.ensures.counts.line))

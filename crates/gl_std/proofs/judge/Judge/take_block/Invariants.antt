@@ -7,7 +7,7 @@ use Rattle.gl_std.proofs.judge.Judge.take_block.Given as goal
 abbrev pub invariant-loop-i : goal.invariant-loop-i
 invariant-loop-i l = record {
   taken : (told : Trace) → HasJudged l.initial.self told → l.initial.lists ≡ told.lists
-      → HasTakenShapes l.initial.self.limits l.initial.self.line told (map (shape_in l.block.names) (take l.i l.block.said.items)) l.self l.lists;
+      → HasTakenShapes l.initial.self.limits l.initial.self.line told (map (shape_in l.block.names) (take l.i l.block.lines.items)) l.self l.lists;
   known : IsKnownOf l.block.names l.self.names l.known;
   sound : IsSound l.self;
   limits : l.self.limits ≡ l.initial.self.limits;

@@ -1,7 +1,7 @@
-use Rattle.std.proofs.Common.{Ok, refl, ap, subst, arith}
+use Rattle.std.proofs.Common.{refl, subst, arith}
 use Rattle.gl_std.specs.bodies.Ahead.{text_of, HasReadOn}
 use Rattle.gl_std.specs.declared.line_reader.pieces.Ending.TheVariants.{More}
-use Rattle.gl_std.proofs.PiecesAhead.{only_ahead_then, read_on_none, read_on_then}
+use Rattle.gl_std.proofs.PiecesAhead.{only_reads_then, read_on_none, read_on_then}
 use Rattle.gl_std.proofs.line_reader.LineReader.read_ahead.Goals as goal
 
 pub loop-ending-init : goal.loop-ending-init
@@ -17,12 +17,12 @@ pub loop-ending-preserved : goal.loop-ending-preserved
 loop-ending-preserved g c =
     let so_far = c.loop-ending.invariant in
     let new = c.read_piece.new in
-    let more = subst (HasReadOn (g.R.Source.position c.loop-ending.input) c.loop-ending.self (text_of c.loop-ending.pieces.items) (g.R.Source.position new.input) (g.R.Source.failed new.input) new.self (text_of new.pieces.items)) c.in-More.is c.in_ok-ending.ensures.reads in
-    let fewer = c.in_ok-ending.ensures.fewer (ap (λ e. Ok e) c.in-More.is) in
+    let more = subst (HasReadOn (g.R.Source.position c.loop-ending.input) c.loop-ending.self (text_of c.loop-ending.pieces.items) (g.R.Source.position new.input) (g.R.Source.failed new.input) new.self (text_of new.pieces.items)) c.in-More.is c.in_ok-ending.ensures.adds.reads in
+    let fewer = c.in_ok-ending.ensures.adds.fewer c.in-More.is in
     record {
       reads = read_on_then _ _ _ c.args.self.now c.loop-ending.self new.self (text_of c.args.pieces.now.items) (text_of c.loop-ending.pieces.items) (text_of new.pieces.items) _ _ More so_far.reads more;
-      only = only_ahead_then _ _ _ so_far.only c.in_ok-ending.ensures.only;
-      short = c.in_ok-ending.ensures.short;
+      only = only_reads_then _ _ _ so_far.only c.in_ok-ending.ensures.adds.only;
+      short = c.in_ok-ending.ensures.adds.short;
       not_failed = more.gives.0;
       few = omega (arith, so_far.few, fewer);
     }
@@ -33,10 +33,10 @@ returns-in_default g c =
     let so_far = c.loop-ending.invariant in
     let new = c.read_piece.new in
     record {
-      reads = read_on_then _ _ _ c.args.self.now c.loop-ending.self new.self (text_of c.args.pieces.now.items) (text_of c.loop-ending.pieces.items) (text_of new.pieces.items) _ _ _ so_far.reads c.in_ok-ending.ensures.reads;
-      only = only_ahead_then _ _ _ so_far.only c.in_ok-ending.ensures.only;
-      short = c.in_ok-ending.ensures.short;
-      fewer = λ is. let fewer = c.in_ok-ending.ensures.fewer is in omega (arith, so_far.few, fewer);
+      reads = read_on_then _ _ _ c.args.self.now c.loop-ending.self new.self (text_of c.args.pieces.now.items) (text_of c.loop-ending.pieces.items) (text_of new.pieces.items) _ _ _ so_far.reads c.in_ok-ending.ensures.adds.reads;
+      only = only_reads_then _ _ _ so_far.only c.in_ok-ending.ensures.adds.only;
+      short = c.in_ok-ending.ensures.adds.short;
+      fewer = λ is. let fewer = c.in_ok-ending.ensures.adds.fewer is in omega (arith, so_far.few, fewer);
     }
 
 -- there are as many as were asked for
@@ -44,11 +44,11 @@ pub returns-then-len-most : goal.returns-then-len-most
 returns-then-len-most g c =
     let so_far = c.loop-ending.invariant in
     let new = c.read_piece.new in
-    let more = subst (HasReadOn (g.R.Source.position c.loop-ending.input) c.loop-ending.self (text_of c.loop-ending.pieces.items) (g.R.Source.position new.input) (g.R.Source.failed new.input) new.self (text_of new.pieces.items)) c.in-More.is c.in_ok-ending.ensures.reads in
-    let fewer = c.in_ok-ending.ensures.fewer (ap (λ e. Ok e) c.in-More.is) in
+    let more = subst (HasReadOn (g.R.Source.position c.loop-ending.input) c.loop-ending.self (text_of c.loop-ending.pieces.items) (g.R.Source.position new.input) (g.R.Source.failed new.input) new.self (text_of new.pieces.items)) c.in-More.is c.in_ok-ending.ensures.adds.reads in
+    let fewer = c.in_ok-ending.ensures.adds.fewer c.in-More.is in
     record {
       reads = read_on_then _ _ _ c.args.self.now c.loop-ending.self new.self (text_of c.args.pieces.now.items) (text_of c.loop-ending.pieces.items) (text_of new.pieces.items) _ _ More so_far.reads more;
-      only = only_ahead_then _ _ _ so_far.only c.in_ok-ending.ensures.only;
-      short = c.in_ok-ending.ensures.short;
+      only = only_reads_then _ _ _ so_far.only c.in_ok-ending.ensures.adds.only;
+      short = c.in_ok-ending.ensures.adds.short;
       fewer = λ _. omega (arith, so_far.few, fewer);
     }

@@ -1,12 +1,13 @@
 use Rattle.std.proofs.Common.{◌≡◌, ◌≤◌, false}
-use Rattle.gl_std.specs.bodies.Ahead.{text_of, AreShort, HasReadOn, OnlyReadsAhead}
+use Rattle.gl_std.specs.bodies.Ahead.{text_of, AreShort, HasReadOn}
+use Rattle.gl_std.specs.bodies.Stepping.{OnlyReads}
 use Rattle.gl_std.specs.declared.line_reader.pieces.Ending.TheVariants.{More}
 use Rattle.gl_std.proofs.line_reader.LineReader.read_ahead.Given as goal
 
 abbrev pub invariant-loop-ending : goal.invariant-loop-ending
 invariant-loop-ending g l = record {
   reads : HasReadOn (g.R.Source.position l.initial.input) l.initial.self (text_of l.initial.pieces.items) (g.R.Source.position l.input) (g.R.Source.failed l.input) l.self (text_of l.pieces.items) More;
-  only : OnlyReadsAhead l.initial.self l.self;
+  only : OnlyReads l.initial.self l.self;
   short : AreShort l.pieces.items;
   not_failed : g.R.Source.failed l.input ≡ false;
   few : l.self.turns ≤ l.initial.self.turns;

@@ -1,7 +1,7 @@
-use Rattle.std.proofs.Common.{Ok, length, refl, ap, subst, arith}
+use Rattle.std.proofs.Common.{length, refl, ap, subst, arith}
 use Rattle.gl_std.specs.bodies.Ahead.{bytes_of, HasReadOn}
 use Rattle.gl_std.specs.declared.line_reader.pieces.Ending.TheVariants.{More}
-use Rattle.gl_std.proofs.PiecesAhead.{only_ahead_then, read_on_none, read_on_then}
+use Rattle.gl_std.proofs.PiecesAhead.{only_reads_then, read_on_none, read_on_then}
 use Rattle.gl_std.proofs.line_reader.LineReader.read_into.Goals as goal
 
 pub loop-ending-init : goal.loop-ending-init
@@ -18,10 +18,10 @@ loop-ending-preserved g c =
     let so_far = c.loop-ending.invariant in
     let new = c.read_more.new in
     let more = subst (HasReadOn (g.R.Source.position c.loop-ending.input) c.loop-ending.self (bytes_of c.loop-ending.piece) (g.R.Source.position new.input) (g.R.Source.failed new.input) new.self (bytes_of new.piece)) c.in-More.is c.in_ok-ending.ensures.reads in
-    let fewer = c.in_ok-ending.ensures.fewer (ap (λ e. Ok e) c.in-More.is) in
+    let fewer = c.in_ok-ending.ensures.fewer c.in-More.is in
     record {
       reads = read_on_then _ _ _ c.args.self.now c.loop-ending.self new.self (bytes_of c.args.piece.now) (bytes_of c.loop-ending.piece) (bytes_of new.piece) _ _ More so_far.reads more;
-      only = only_ahead_then _ _ _ so_far.only c.in_ok-ending.ensures.only;
+      only = only_reads_then _ _ _ so_far.only c.in_ok-ending.ensures.only;
       room = omega (arith, c.len.ensures, c.if-len.false);
       not_failed = more.gives.0;
       few = omega (arith, so_far.few, fewer);
@@ -34,7 +34,7 @@ returns-in_default g c =
     let new = c.read_more.new in
     record {
       reads = read_on_then _ _ _ c.args.self.now c.loop-ending.self new.self (bytes_of c.args.piece.now) (bytes_of c.loop-ending.piece) (bytes_of new.piece) _ _ _ so_far.reads c.in_ok-ending.ensures.reads;
-      only = only_ahead_then _ _ _ so_far.only c.in_ok-ending.ensures.only;
+      only = only_reads_then _ _ _ so_far.only c.in_ok-ending.ensures.only;
       short = c.in_ok-ending.ensures.short;
       fewer = λ is. let fewer = c.in_ok-ending.ensures.fewer is in omega (arith, so_far.few, fewer);
     }
@@ -45,10 +45,10 @@ returns-then-len g c =
     let so_far = c.loop-ending.invariant in
     let new = c.read_more.new in
     let more = subst (HasReadOn (g.R.Source.position c.loop-ending.input) c.loop-ending.self (bytes_of c.loop-ending.piece) (g.R.Source.position new.input) (g.R.Source.failed new.input) new.self (bytes_of new.piece)) c.in-More.is c.in_ok-ending.ensures.reads in
-    let fewer = c.in_ok-ending.ensures.fewer (ap (λ e. Ok e) c.in-More.is) in
+    let fewer = c.in_ok-ending.ensures.fewer c.in-More.is in
     record {
       reads = read_on_then _ _ _ c.args.self.now c.loop-ending.self new.self (bytes_of c.args.piece.now) (bytes_of c.loop-ending.piece) (bytes_of new.piece) _ _ More so_far.reads more;
-      only = only_ahead_then _ _ _ so_far.only c.in_ok-ending.ensures.only;
+      only = only_reads_then _ _ _ so_far.only c.in_ok-ending.ensures.only;
       short = c.in_ok-ending.ensures.short;
       fewer = λ _. omega (arith, so_far.few, fewer);
     }

@@ -6,7 +6,7 @@ use gl_event::{LocId, ThreadId};
 /// What a line says, by the numbers that its block gives to names. The operand is a lock or a thread, as
 /// the operation says.
 #[derive(Clone, Copy)]
-pub(crate) enum Said {
+pub(crate) enum NumberedLine {
     /// Nothing: the line is empty.
     Blank,
     /// Nothing, since the line is at fault.
