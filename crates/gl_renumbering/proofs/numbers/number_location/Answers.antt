@@ -5,4 +5,4 @@ use Rattle.gl_renumbering.proofs.numbers.number_location.Goals as goal
 
 pub returns-in-Ok-clause-number : goal.returns-in-Ok-clause-number
 returns-in-Ok-clause-number c =
-    ap (position (bytes_eq c.args.name.now)) c.in-Ok.ensures.names ∙ placed c.args.names.now.locs c.args.name.now ∙ ap Some (sym (c.number.ensures ∙ c.in-Ok.ensures.number))
+    ap (position (bytes_eq c.args.name.now)) c.in-Ok.ensures.numbered.names ∙ placed c.args.names.now.locs c.args.name.now ∙ ap Some (sym (c.number.ensures ∙ c.in-Ok.ensures.numbered.number))
