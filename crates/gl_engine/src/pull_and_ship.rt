@@ -78,7 +78,8 @@ fn has_pulled(thread: ThreadId, pulled: &Result<Pulled, PullFault>) -> Result<bo
     }
 }
 
-// Pulls the next note off the thread's lane, if there is one, and makes its edges. Whether there was one.
+// Pulls the next note off the thread's lane, if there is one, and adds its edges to those made. Whether there
+// was one.
 fn pull_at(
     alloc: Global,
     thread: ThreadId,
@@ -87,10 +88,9 @@ fn pull_at(
     made: &mut Vec<(Edge, Sample)>,
 ) -> Result<bool, RunFault>
     requires known { thread < intake.old.limits.threads }
-    requires none { made.old.items ≡ [] }
     requires keeps { KeepsNotes intake.old inputs.old.items }
     ensures pulls_on { PullsOn 1 thread intake.old intake.new inputs.old.items
-        inputs.new.items made.new.items result }
+        inputs.new.items made.old.items made.new.items result }
     ensures moved { IfOk result (HasMoved intake.old.stream intake.new.stream) }
 {
     let input = &mut inputs[thread.number() as usize];
@@ -98,8 +98,8 @@ fn pull_at(
     has_pulled(thread, &pulled)
 }
 
-// Pulls the next notes off the thread's lane, as many as a turn may at most, and makes their edges.
-// Whether there was one.
+// Pulls the next notes off the thread's lane, as many as a turn may at most, and adds their edges to those
+// made. Whether there was one.
 fn pull_some(
     alloc: Global,
     thread: ThreadId,
@@ -108,20 +108,14 @@ fn pull_some(
     made: &mut Vec<(Edge, Sample)>,
 ) -> Result<bool, RunFault>
     requires known { thread < intake.old.limits.threads }
-    requires none { made.old.items ≡ [] }
     requires keeps { KeepsNotes intake.old inputs.old.items }
     ensures pulls_on { PullsOn 64 thread intake.old intake.new inputs.old.items
-        inputs.new.items made.new.items result }
+        inputs.new.items made.old.items made.new.items result }
     ensures moved { IfOk result (HasMoved intake.old.stream intake.new.stream) }
 {
     let mut moved = false;
-    // what a note makes goes from here to those made, and its memory serves the next one
-    let mut next = Vec::new(alloc);
     for _ in 0..BURST {
-        let pulled = pull_at(alloc, thread, inputs, intake, &mut next)?;
-        let Ok(()) = made.append(&mut next) else {
-            return Err(RunFault::Memory);
-        };
+        let pulled = pull_at(alloc, thread, inputs, intake, made)?;
         if !pulled {
             return Ok(moved);
         }
