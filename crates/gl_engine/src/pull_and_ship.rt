@@ -46,18 +46,20 @@ fn ship_one<R: Wait>(
 }
 
 // Ships the edges to their shards, in order, up to one that can't be sent: the worker of its shard is gone.
+// None is left, and the list's memory serves the next ones.
 fn ship<R: Wait>(
     rt: &R,
     outlets: &mut Vec<Outlet>,
-    made: Vec<(Edge, Sample)>,
+    made: &mut Vec<(Edge, Sample)>,
 ) -> Result<(), RunFault>
     requires shards { ReachShards outlets.old.items }
-    ensures ships { Ships made.items outlets.old.items outlets.new.items result }
+    ensures ships { Ships made.old.items outlets.old.items outlets.new.items result }
     ensures stopped { (before : List (Edge × Sample)) → HaveShipped outlets.old.items before
         → IfErr result
-        (IsGoneAt (before ++ made.items) (map (λ o. o.sent) outlets.new.items)) }
+        (IsGoneAt (before ++ made.old.items) (map (λ o. o.sent) outlets.new.items)) }
+    ensures none { made.new.items ≡ [] }
 {
-    for (edge, sample) in made {
+    for (edge, sample) in made.drain(..) {
         if let Err(shard) = ship_one(rt, outlets, edge, sample) {
             return Err(RunFault::Gone { shard });
         }
@@ -124,47 +126,54 @@ fn pull_some(
     Ok(moved)
 }
 
-// Pulls notes off the thread's lane, if there are any, and ships their edges. Whether there was one.
+// Pulls notes off the thread's lane, if there are any, and ships their edges, by way of this empty list.
+// Whether there was one.
 fn turn<R: Wait>(
     rt: &R,
     alloc: Global,
     thread: ThreadId,
     inputs: &mut Vec<LaneInput>,
     intake: &mut Intake,
+    made: &mut Vec<(Edge, Sample)>,
     outlets: &mut Vec<Outlet>,
 ) -> Result<bool, RunFault>
     requires known { thread < intake.old.limits.threads }
+    requires none { made.old.items ≡ [] }
     requires shards { ReachShards outlets.old.items }
     requires kept { KeepsUp intake.old.limits inputs.old.items intake.old.stream outlets.old.items }
     ensures goes_on { GoesOn intake.old intake.new inputs.old.items inputs.new.items
         outlets.old.items outlets.new.items result }
     ensures moved { IfOk result (HasMoved intake.old.stream intake.new.stream) }
+    ensures none { OnOk result (made.new.items ≡ []) }
 {
-    let mut made = Vec::new(alloc);
-    let pulled = pull_some(alloc, thread, inputs, intake, &mut made)?;
+    let pulled = pull_some(alloc, thread, inputs, intake, made)?;
     ship(rt, outlets, made)?;
     Ok(pulled)
 }
 
-// A turn of each thread. Whether a note was pulled.
+// A turn of each thread, all by way of this empty list. Whether a note was pulled.
 fn round<R: Wait>(
     rt: &R,
     alloc: Global,
     threads: u32,
     inputs: &mut Vec<LaneInput>,
     intake: &mut Intake,
+    made: &mut Vec<(Edge, Sample)>,
     outlets: &mut Vec<Outlet>,
 ) -> Result<bool, RunFault>
     requires all { threads ≡ intake.old.limits.threads }
+    requires none { made.old.items ≡ [] }
     requires shards { ReachShards outlets.old.items }
     requires kept { KeepsUp intake.old.limits inputs.old.items intake.old.stream outlets.old.items }
     ensures goes_on { GoesOn intake.old intake.new inputs.old.items inputs.new.items
         outlets.old.items outlets.new.items result }
     ensures moved { IfOk result (HasMoved intake.old.stream intake.new.stream) }
+    ensures none { OnOk result (made.new.items ≡ []) }
 {
     let mut moved = false;
     for number in 0..threads {
-        let pulled = turn(rt, alloc, ThreadId::new(number), inputs, intake, outlets)?;
+        let thread = ThreadId::new(number);
+        let pulled = turn(rt, alloc, thread, inputs, intake, made, outlets)?;
         moved = moved || pulled;
     }
     Ok(moved)
@@ -186,13 +195,14 @@ fn pull_until_ended<R: Wait>(
         outlets.old.items outlets.new.items result }
     ensures ended { OnOk result (HaveEndedBelow intake.new.stream intake.old.limits.threads) }
 {
-    ship(rt, outlets, made)?;
+    let mut made = made;
+    ship(rt, outlets, &mut made)?;
     let mut looks: u32 = 0;
     for _ in rt.forever() {
         if intake.all_ended() {
             return Ok(());
         }
-        if round(rt, alloc, threads, inputs, intake, outlets)? {
+        if round(rt, alloc, threads, inputs, intake, &mut made, outlets)? {
             looks = 0;
         } else {
             pause(rt, looks);

@@ -33,13 +33,13 @@ returns-in_err-ship-clause-goes_on g c =
           (blamed_gone c.args.intake.now.limits c.pull_some.new.inputs.items c.pull_some.new.intake.stream _ _ c.in_err-ship.field-0.0
           (c.in_err-ship.ensures.stopped _ c.requires.kept.shipped));
       stopped = rw (p.1, p.2)
-          (stops_gone c.args.intake.now.stream c.pull_some.new.intake.stream _ _ c.in_err-ship.field-0.0 (added_all _ _ _ _ c.new-made.ensures.items c.pull_some.ensures.pulls_on.added)
+          (stops_gone c.args.intake.now.stream c.pull_some.new.intake.stream _ _ c.in_err-ship.field-0.0 (added_all _ _ _ _ c.requires.none c.pull_some.ensures.pulls_on.added)
           (c.in_err-ship.ensures.stopped _ c.requires.kept.shipped));
     }
 
 pub returns-clause-goes_on : goal.returns-clause-goes_on
 returns-clause-goes_on g c =
-    let all = added_all _ _ _ _ c.new-made.ensures.items c.pull_some.ensures.pulls_on.added in
+    let all = added_all _ _ _ _ c.requires.none c.pull_some.ensures.pulls_on.added in
     record {
       keeps = record {
         collector = c.pull_some.ensures.pulls_on.keeps;
