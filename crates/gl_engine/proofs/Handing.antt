@@ -1,6 +1,6 @@
 -- What lanes hand over, note by note, and what stops a run.
-use Rattle.std.proofs.Common.{◌≡◌, ℕ, ◌+◌, ◌<◌, ◌≤◌, List, [], ◌∷◌, ◌++◌, length, map, set, Result, Ok, Err, get_or, sym, ap, ◌∙◌, subst, append_assoc, arith, inl, inr}
-use Rattle.std.specs.Prelude.{slice_get, OnOk}
+use Rattle.std.proofs.Common.{◌≡◌, ℕ, ◌+◌, ◌<◌, ◌≤◌, List, [], ◌∷◌, ◌++◌, length, map, set, get_or, sym, ap, ◌∙◌, subst, append_assoc, arith, inl, inr}
+use Rattle.std.specs.Prelude.{slice_get}
 use mathlib.Core.List.{IsPrefix}
 use Rattle.std.proofs.lemmas.Bool.{cases_eq}
 use Rattle.std.proofs.lemmas.List.{append-nil, length-append, length-map, map-append}
@@ -13,6 +13,7 @@ use Rattle.gl_shards.specs.Feeds.{Sending}
 use Rattle.gl_world.proofs.Lists.{same_some, get_at, get_set_same, get_set_other}
 use Rattle.gl_engine.specs.bodies.Breaking.{handed, HandOver, HasLagged, HasStopped, IsBlamed, IsGoneAt, IsPullFault, StopsWith}
 use Rattle.gl_engine.specs.Collecting.{as_of, IsTurn}
+use Rattle.gl_engine.specs.bodies.Whole.{AddsEdges}
 use Rattle.gl_engine.specs.Dealing.{dealt, made_by}
 use Rattle.gl_engine.specs.declared.gathered.RunFault.{RunFault}
 use Rattle.gl_engine.specs.declared.gathered.RunFault.TheVariants.{Memory, Gone, Broken}
@@ -144,11 +145,6 @@ pulled_on one two both thread before between after within a b = record {
 pub pulled_prefix : (most thread : ℕ) (before after : List Note) → IsTurn most thread before after → IsPrefix before after
 pulled_prefix most thread before after is = (map (as_of thread) is.notes, is.joined)
 
--- what holds anyway holds after an Ok
-pub on_ok_anyway : {A E P : Type 0} (r : Result A E) → P → OnOk r P
-on_ok_anyway (Ok x) it = it
-on_ok_anyway (Err e) it = tt
-
--- what was made before, and then beside it, is all that is made
-pub made_on : {X : Type 0} (before one more both between all : List X) → both ≡ one ++ more → before ++ one ≡ between → between ++ more ≡ all → before ++ both ≡ all
-made_on before one more both between all parts first then = ap (λ xs. before ++ xs) parts ∙ sym (append_assoc before one more) ∙ ap (λ xs. xs ++ more) first ∙ then
+-- all edges are shipped or among those made, where none were made before
+pub added_all : (before after : List Note) (made more : List (Edge × Sample)) → made ≡ [] → AddsEdges before made after more → made_by before ++ more ≡ made_by after
+added_all before after made more none adds = adds (made_by before) (ap (λ pairs. made_by before ++ pairs) none ∙ append-nil (made_by before))

@@ -1,4 +1,4 @@
--- A pull in a run, whose edges are kept apart from those that were shipped.
+-- A pull in a run, whose edges are added to those that are to be shipped.
 use Rattle.std.proofs.Common.{◌≡◌, ℕ, suc, ◌+◌, ◌<◌, ◌≤◌, Bool, true, false, List, [], ◌∷◌, ◌++◌, length, map, set, get_or, Option, None, Some, Result, Ok, Err, refl, sym, ap, ◌∙◌, subst, append_assoc, arith, inl, inr}
 use Rattle.std.specs.Prelude.{slice_get, IsOk, OnOk, IfErr, IfSome}
 use Rattle.std.specs.List.{range_with_len}
@@ -18,13 +18,13 @@ use Rattle.gl_shards.specs.Shards.{shard_of}
 use Rattle.gl_shards.specs.Tables.{of_shard}
 use Rattle.gl_shards.specs.declared.shard.TheConstants.{MAX_SHARDS}
 use Rattle.gl_world.proofs.Lists.{same_some, get_at, get_set_same}
-use Rattle.gl_engine.specs.Collecting.{Pulling, Side, as_of, with_pulled, HasPulled, IsTurn, IsSidePull}
+use Rattle.gl_engine.specs.Collecting.{Pulling, Side, as_of, break_lane, with_pulled, HasPulled, IsTurn, IsSidePull}
 use Rattle.gl_intake.specs.declared.notes.Refused.{Refused}
 use Rattle.gl_engine.specs.bodies.Breaking.{first_of, HasStopped, IsBlamed, IsBroken, IsKeptFor, IsPullFault, TellsTaken}
-use Rattle.gl_engine.specs.Dealing.{dealt, made_by}
+use Rattle.gl_engine.specs.Dealing.{dealt, edges_of_next, made_by}
 use Rattle.gl_engine.specs.Keeping.{BreaksForCause, IsCollector, pulling_of}
 use Rattle.gl_engine.specs.bodies.Shipping.{HaveShipped, ReachShards}
-use Rattle.gl_engine.specs.bodies.Whole.{lane_of, HasMoved, KeepsUp, IsWhole, IsGathered}
+use Rattle.gl_engine.specs.bodies.Whole.{lane_of, AddsEdges, HasMoved, KeepsUp, IsWhole, IsGathered}
 use Rattle.std.proofs.lemmas.Simd.{map-map}
 use Rattle.gl_engine.specs.declared.gathered.RunFault.{RunFault}
 use Rattle.gl_engine.specs.declared.gathered.RunFault.TheVariants as kept
@@ -33,33 +33,52 @@ use Rattle.gl_engine.specs.declared.pulled.Pulled.TheVariants.{Empty, Event as A
 use Rattle.gl_engine.specs.declared.pulled.PullFault.{PullFault}
 use Rattle.gl_engine.specs.declared.pulled.PullFault.TheVariants.{Broken, Memory as OutOfMemory}
 use Rattle.gl_engine.specs.declared.lane_input.LaneInput.{LaneInput}
-use Rattle.gl_engine.proofs.Dealt.{dealt_at, dealt_more}
+use Rattle.gl_engine.proofs.Dealt.{dealt_at, dealt_more, made_by_more}
 use Rattle.gl_engine.proofs.Handing.{prefix_behind}
 use Rattle.gl_engine.proofs.Sides.{collector_after, lane_same}
 
--- the side with these edges made before its own
-abbrev pub side_after : List (Edge × Sample) → Side → Side
-side_after before side = record { input = side.input; stream = side.stream; made = before ++ side.made }
+-- the side where the edges made are all that its notes make
+abbrev pub side_whole : Side → Side
+side_whole side = record { input = side.input; stream = side.stream; made = made_by side.stream }
 
-module _ (limits : Bounds) (thread : ℕ) (before : List (Edge × Sample)) (old new : Side) where
-  pulled_after : (answer : Pulled) → HasPulled limits thread old answer new → HasPulled limits thread (side_after before old) answer (side_after before new)
-  pulled_after answer has = record {
+module _ (limits : Bounds) (thread : ℕ) (old new : Side) where
+  pulled_whole : (answer : Pulled) → HasPulled limits thread old answer new → HasPulled limits thread (side_whole old) answer (side_whole new)
+  pulled_whole answer has = record {
     running = has.running;
     note = has.note;
     next = has.next;
     answer_is = has.answer_is;
-    moved = ap (side_after before) has.moved
-        ∙ ap (λ pairs. let side : Side = record { input = (with_pulled thread old has.note).input; stream = (with_pulled thread old has.note).stream; made = pairs } in side) (sym (append_assoc before old.made _));
+    moved = ap side_whole has.moved
+        ∙ ap (λ pairs. let side : Side = record { input = (with_pulled thread old has.note).input; stream = (with_pulled thread old has.note).stream; made = pairs } in side) (made_by_more old.stream (as_of thread has.note));
   }
 
-  -- the same pull, with these edges made before
-  pub pull_after : (answer : Result Pulled PullFault) → IsSidePull limits thread old answer new → IsSidePull limits thread (side_after before old) answer (side_after before new)
-  pull_after (Ok Empty) tells = (tells.0, ap (side_after before) tells.1)
-  pull_after (Ok (Answered place)) tells = pulled_after (Answered place) tells
-  pull_after (Ok (Closing count)) tells = pulled_after (Closing count) tells
-  pull_after (Err (Broken why)) (inl same) = inl (same.0, ap (side_after before) same.1)
-  pull_after (Err (Broken why)) (inr has) = inr (record { running = has.running; note = has.note; refused = has.refused; moved = ap (side_after before) has.moved })
-  pull_after (Err OutOfMemory) tells = (tells.0, ap (side_after before) tells.1)
+  -- the same pull, where all edges are among those made
+  pub pull_whole : (answer : Result Pulled PullFault) → IsSidePull limits thread old answer new → IsSidePull limits thread (side_whole old) answer (side_whole new)
+  pull_whole (Ok Empty) tells = (tells.0, ap side_whole tells.1)
+  pull_whole (Ok (Answered place)) tells = pulled_whole (Answered place) tells
+  pull_whole (Ok (Closing count)) tells = pulled_whole (Closing count) tells
+  pull_whole (Err (Broken why)) (inl same) = inl (same.0, ap side_whole same.1)
+  pull_whole (Err (Broken why)) (inr has) = inr (record { running = has.running; note = has.note; refused = has.refused; moved = ap side_whole has.moved })
+  pull_whole (Err OutOfMemory) tells = (tells.0, ap side_whole tells.1)
+
+  pulled_edges : (answer : Pulled) → HasPulled limits thread old answer new → AddsEdges old.stream old.made new.stream new.made
+  pulled_edges answer has shipped are =
+      subst (λ (s : Side). shipped ++ s.made ≡ made_by s.stream) (sym has.moved)
+      (sym (append_assoc shipped old.made _) ∙ ap (λ pairs. pairs ++ edges_of_next old.stream (as_of thread has.note)) are ∙ sym (made_by_more old.stream (as_of thread has.note)))
+
+  same_edges : (side : Side) → new ≡ side → side.stream ≡ old.stream → side.made ≡ old.made → AddsEdges old.stream old.made new.stream new.made
+  same_edges side moved stream made shipped are =
+      subst (λ (s : Side). shipped ++ s.made ≡ made_by s.stream) (sym moved)
+      (ap (λ pairs. shipped ++ pairs) made ∙ are ∙ ap made_by (sym stream))
+
+  -- its edges were added to those made
+  pub pull_edges : (answer : Result Pulled PullFault) → IsSidePull limits thread old answer new → AddsEdges old.stream old.made new.stream new.made
+  pull_edges (Ok Empty) tells = same_edges old tells.1 refl refl
+  pull_edges (Ok (Answered place)) tells = pulled_edges (Answered place) tells
+  pull_edges (Ok (Closing count)) tells = pulled_edges (Closing count) tells
+  pull_edges (Err (Broken why)) (inl same) = same_edges old same.1 refl refl
+  pull_edges (Err (Broken why)) (inr has) = same_edges (break_lane old why) has.moved refl refl
+  pull_edges (Err OutOfMemory) tells = same_edges old tells.1 refl refl
 
 -- a lane that a pull found broken is so
 broken_by : (limits : Bounds) (thread : ℕ) (old new : Side) (why : Refused) → IsSidePull limits thread old (Err (Broken why)) new → new.input.broken ≡ Some why
@@ -67,26 +86,20 @@ broken_by limits thread old new why (inl same) = ap (λ (s : Side). s.input.brok
 broken_by limits thread old new why (inr has) = ap (λ (s : Side). s.input.broken) has.moved
 
 module _ (limits : Bounds) (inputs : List LaneInput) (stream : List Note) (is : IsCollector limits inputs stream (made_by stream) limits)
-    (thread : ℕ) (was new : LaneInput) (within : thread < length inputs) (here : was ≡ get_or inputs thread was) (later : List Note) (due : List (Edge × Sample))
+    (thread : ℕ) (was new : LaneInput) (within : thread < length inputs) (here : was ≡ get_or inputs thread was) (later : List Note) (made more : List (Edge × Sample))
     (cause : BreaksForCause limits thread later new) (answer : Result Pulled PullFault)
-    (tells : IsSidePull limits thread (record { input = pulling_of was; stream = stream; made = [] }) answer (record { input = pulling_of new; stream = later; made = due })) where
-  told_after : IsSidePull limits thread (record { input = pulling_of was; stream = stream; made = made_by stream }) answer (record { input = pulling_of new; stream = later; made = made_by stream ++ due })
-  told_after =
-      subst (λ pairs. IsSidePull limits thread (record { input = pulling_of was; stream = stream; made = pairs }) answer (record { input = pulling_of new; stream = later; made = made_by stream ++ due })) (append-nil (made_by stream))
-      (pull_after limits thread (made_by stream) (record { input = pulling_of was; stream = stream; made = [] }) (record { input = pulling_of new; stream = later; made = due }) answer tells)
+    (tells : IsSidePull limits thread (record { input = pulling_of was; stream = stream; made = made }) answer (record { input = pulling_of new; stream = later; made = more })) where
+  told_whole : IsSidePull limits thread (record { input = pulling_of was; stream = stream; made = made_by stream }) answer (record { input = pulling_of new; stream = later; made = made_by later })
+  told_whole = pull_whole limits thread (record { input = pulling_of was; stream = stream; made = made }) (record { input = pulling_of new; stream = later; made = more }) answer tells
 
-  after : IsCollector limits (set inputs thread new) later (made_by stream ++ due) limits
-  after = collector_after limits inputs stream (made_by stream) limits is thread was new within here later (made_by stream ++ due) cause answer told_after
-
-  -- the edges due are those that the stream makes beside those before
-  pub due_later : made_by stream ++ due ≡ made_by later
-  due_later = after.made_is
+  pub edges_later : AddsEdges stream made later more
+  edges_later = pull_edges limits thread (record { input = pulling_of was; stream = stream; made = made }) (record { input = pulling_of new; stream = later; made = more }) answer tells
 
   pub kept_later : IsCollector limits (set inputs thread new) later (made_by later) limits
-  kept_later = subst (λ pairs. IsCollector limits (set inputs thread new) later pairs limits) due_later after
+  kept_later = collector_after limits inputs stream (made_by stream) limits is thread was new within here later (made_by later) cause answer told_whole
 
   pub lanes_later : map lane_of (set inputs thread new) ≡ map lane_of inputs
-  lanes_later = map-set_same lane_of inputs thread new was (lane_same limits inputs stream (made_by stream) limits is thread was new within here later (made_by stream ++ due) answer told_after ∙ ap lane_of here)
+  lanes_later = map-set_same lane_of inputs thread new was (lane_same limits inputs stream (made_by stream) limits is thread was new within here later (made_by later) answer told_whole ∙ ap lane_of here)
 
   pulled_same : later ≡ stream → IsTurn 1 thread stream later
   pulled_same same = record { notes = []; few = omega arith; joined = append-nil stream ∙ sym same }
@@ -94,7 +107,7 @@ module _ (limits : Bounds) (inputs : List LaneInput) (stream : List Note) (is : 
   pulled_one : (note : Note) → later ≡ stream ++ as_of thread note ∷ [] → IsTurn 1 thread stream later
   pulled_one note grown = record { notes = note ∷ []; few = omega arith; joined = sym grown }
 
-  grown_by : (answer : Result Pulled PullFault) → IsSidePull limits thread (record { input = pulling_of was; stream = stream; made = [] }) answer (record { input = pulling_of new; stream = later; made = due }) → IsTurn 1 thread stream later
+  grown_by : (answer : Result Pulled PullFault) → IsSidePull limits thread (record { input = pulling_of was; stream = stream; made = made }) answer (record { input = pulling_of new; stream = later; made = more }) → IsTurn 1 thread stream later
   grown_by (Ok Empty) t = pulled_same (ap (λ (s : Side). s.stream) t.1)
   grown_by (Ok (Answered place)) t = pulled_one t.note (ap (λ (s : Side). s.stream) t.moved)
   grown_by (Ok (Closing count)) t = pulled_one t.note (ap (λ (s : Side). s.stream) t.moved)
@@ -108,7 +121,7 @@ module _ (limits : Bounds) (inputs : List LaneInput) (stream : List Note) (is : 
   longer : (note : Note) → later ≡ stream ++ note ∷ [] → length stream < length later
   longer note grown = omega (arith, ap length grown, length-append stream (note ∷ []))
 
-  moved_by_answer : (taken : Bool) (answer : Result Pulled PullFault) → IsSidePull limits thread (record { input = pulling_of was; stream = stream; made = [] }) answer (record { input = pulling_of new; stream = later; made = due })
+  moved_by_answer : (taken : Bool) (answer : Result Pulled PullFault) → IsSidePull limits thread (record { input = pulling_of was; stream = stream; made = made }) answer (record { input = pulling_of new; stream = later; made = more })
       → TellsTaken answer taken → HasMoved stream later taken
   moved_by_answer taken (Ok Empty) t told = subst (HasMoved stream later) (sym told) (ap (λ (s : Side). s.stream) t.1)
   moved_by_answer taken (Ok (Answered place)) t told = subst (HasMoved stream later) (sym told) (longer (as_of thread t.note) (ap (λ (s : Side). s.stream) t.moved))
@@ -124,7 +137,7 @@ module _ (limits : Bounds) (inputs : List LaneInput) (stream : List Note) (is : 
   blamed_now kept.Memory told = tt
   blamed_now (kept.Gone shard) told = absurd told
   blamed_now (kept.Broken number why) told =
-      let broken : new.broken ≡ Some why = broken_by limits thread _ _ why (subst (λ a. IsSidePull limits thread (record { input = pulling_of was; stream = stream; made = [] }) a (record { input = pulling_of new; stream = later; made = due })) told.1 tells) in
+      let broken : new.broken ≡ Some why = broken_by limits thread _ _ why (subst (λ a. IsSidePull limits thread (record { input = pulling_of was; stream = stream; made = made }) a (record { input = pulling_of new; stream = later; made = more })) told.1 tells) in
       let stuck = cause why broken in
       let there : slice_get (set inputs thread new) thread ≡ Some new = get_set_same inputs thread new within in (
         told.0,
@@ -132,7 +145,7 @@ module _ (limits : Bounds) (inputs : List LaneInput) (stream : List Note) (is : 
             (record {
               taken = new.lane.popped;
               note = stuck.note;
-              told = after.inputs_are.told thread new there;
+              told = kept_later.inputs_are.told thread new there;
               came = record { input = new; here = there; first = prefix_behind new.lane.popped (stuck.note ∷ []) new.lane.left stuck.front };
               refused = stuck.refused;
             }),

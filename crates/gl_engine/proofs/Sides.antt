@@ -1,6 +1,6 @@
 -- What a pull makes of a collector's inputs, stream and edges.
-use Rattle.std.proofs.Common.{◌≡◌, ◌≢◌, ℕ, ◌<◌, List, [], ◌∷◌, ◌++◌, length, map, take, set, get_or, None, Some, Result, Ok, Err, Bool, true, not, Option, Vec, Global, refl, sym, ap, ◌∙◌, subst, inl, inr}
-use Rattle.std.specs.Prelude.{slice_get, IfOk, OnOk, OnErr}
+use Rattle.std.proofs.Common.{◌≡◌, ◌≢◌, ℕ, ◌<◌, List, [], ◌∷◌, ◌++◌, length, map, take, set, get_or, None, Some, Result, Ok, Err, Bool, true, not, Option, refl, sym, ap, ◌∙◌, subst, inl, inr}
+use Rattle.std.specs.Prelude.{slice_get, OnOk, OnErr}
 use Rattle.std.proofs.Math.Seq.{take-append_seam, map-set_same}
 use Rattle.std.proofs.lemmas.Bool.{cases_eq}
 use Rattle.std.specs.Option.{is_some, option_map}
@@ -105,11 +105,11 @@ module _ (limits : Bounds) (inputs : List LaneInput) (stream : List Note) (are :
 
 -- ---- one pull
 
--- the edges that an event makes as the next one
-pub due_if : {E : Type 0} (thread : ℕ) (es : List Event) (e : Event) (result : Result (Vec (Edge × Sample) Global) E) → IfOk result (λ edges. edges.items ≡ edges_after thread es e)
-    → IfOk result (λ edges. edges.items ≡ edges_due thread (es ++ e ∷ []) (length es) (Happened e))
-due_if thread es e (Ok edges) made = made ∙ sym (newest thread es e)
-due_if thread es e (Err why) made = tt
+-- the edges that an event makes as the next one, added to those made
+pub due_added : {X E : Type 0} (thread : ℕ) (es : List Event) (e : Event) (made more : List (Edge × Sample)) (result : Result X E) → OnOk result (more ≡ made ++ edges_after thread es e)
+    → OnOk result (more ≡ made ++ edges_due thread (es ++ e ∷ []) (length es) (Happened e))
+due_added thread es e made more (Ok done) added = added ∙ ap (λ pairs. made ++ pairs) (sym (newest thread es e))
+due_added thread es e made more (Err why) added = tt
 
 -- what isn't there, by the test
 pub is_not_there : {X : Type 0} (o : Option X) (b : Bool) → is_some o ≡ not b → b ≡ true → o ≡ None

@@ -1,11 +1,9 @@
 //! What a collector leaves behind that has run, and what went wrong in the run.
-ghost use Rattle.std.specs.Prelude.{◌≡◌, IfOk, IfErr};
+ghost use Rattle.std.specs.Prelude.{◌≡◌, Some, IfOk, IfErr};
 ghost use Rattle.gl_engine.specs.Gathering.{AreOurs};
 ghost use Rattle.gl_engine.specs.Receipts.{AreComplete};
-ghost use Rattle.gl_engine.specs.Settling as settling;
-ghost use Rattle.gl_engine.specs.Settling.{IsMemoryOrGone, IsSettleFault, IsSettledFrom};
+ghost use Rattle.gl_engine.specs.Settling.{told, IsMemoryOrGone, IsSettledFrom};
 
-use crate::faults::SettleFault;
 use crate::lane_input::LaneInput;
 use crate::receipt::Receipt;
 use crate::receipts::confirm_all;
@@ -84,30 +82,20 @@ impl Model for Gathered {
         g.sent.items g.fault };
 }
 
-// What the run answers for its fault.
-fn settle_fault(fault: RunFault) -> SettleFault
-    ensures { result ≡ settling.told fault }
-{
-    match fault {
-        RunFault::Memory => SettleFault::Memory,
-        RunFault::Gone { shard } => SettleFault::Gone { shard },
-        RunFault::Broken { thread, refused } => SettleFault::Broken { thread, refused },
-    }
-}
-
 impl Gathered {
-    /// Settles what was gathered, where there is one receipt of each thread and no other.
+    /// Settles what was gathered, where there is one receipt of each thread and no other. Err with what
+    /// went wrong in the run.
     pub(crate) fn settle_all(
         self,
         receipts: &mut [Receipt],
-    ) -> Result<(Settled, Vec<Sent>), SettleFault>
+    ) -> Result<(Settled, Vec<Sent>), RunFault>
         requires ours { AreOurs self receipts.old }
         requires complete { AreComplete self.session self.limits.threads receipts.old }
         ensures receipts { receipts.new ≡ receipts.old }
         ensures settled { IfOk result
             (λ settled. IsSettledFrom self receipts.old settled.0 settled.1.items) }
-        ensures fault { IfErr result (λ fault. IsSettleFault self receipts.old fault) }
-        ensures complete { IfErr result IsMemoryOrGone }
+        ensures fault { IfErr result (λ fault. self.fault ≡ Some fault) }
+        ensures complete { IfErr result (λ fault. IsMemoryOrGone (told fault)) }
     {
         let Gathered {
             alloc,
@@ -121,7 +109,7 @@ impl Gathered {
         confirm_all(&mut inputs, receipts);
         match fault {
             None => Ok((Settled { alloc, intake }, sent)),
-            Some(fault) => Err(settle_fault(fault)),
+            Some(fault) => Err(fault),
         }
     }
 }

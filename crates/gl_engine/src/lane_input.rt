@@ -1,11 +1,12 @@
 //! What a collector keeps of one thread, and what a pull does with it.
-ghost use Rattle.std.specs.Prelude.{◌≡◌, ◌<◌, ◌≤◌, None, ℕ, List, [], ◌∷◌, ◌++◌, length, IsTrue, IfOk, IfErr, IfSome, OnOk, OnErr};
+ghost use Rattle.std.specs.Prelude.{◌≡◌, ◌<◌, None, ℕ, List, [], ◌∷◌, ◌++◌, length, IsTrue, IfOk, IfErr, IfSome, OnOk, OnErr};
 ghost use mathlib.Core.List.{IsPrefix};
 ghost use Rattle.gl_event.specs.Bounds.{Bounds};
 ghost use Rattle.gl_event.specs.States.{StandsAfter};
 ghost use Rattle.gl_event.specs.declared.events.Event.{Event};
 ghost use Rattle.gl_event.specs.declared.notes.Note.{Note};
-ghost use Rattle.gl_intake.specs.Stream.{note_refusal, spare_of, HasOffered, IsRefusedFor};
+ghost use Rattle.gl_edges.specs.Edges.{edges_after};
+ghost use Rattle.gl_intake.specs.Stream.{HasOffered, IsRefusedFor};
 ghost use Rattle.gl_world.specs.Keeping.{with_body};
 ghost use Rattle.gl_world.specs.Machine.{edges_due};
 ghost use Rattle.gl_engine.specs.Collecting.{as_of, pulled_of, IsSidePull};
@@ -43,21 +44,41 @@ fn pulled(accepted: &Accepted) -> Pulled
     }
 }
 
-// The edges that the body makes, whose note is the next one of the thread of which this is known,
-// ascending.
-fn due(
+// Adds to those made the edges that the event would make as the next one of the thread of which this is
+// known, ascending. Where there is no memory none is added.
+fn add_next_edges(
+    alloc: Global,
+    thread: ThreadId,
+    state: &ThreadState,
+    event: &Event,
+    made: &mut Vec<(Edge, Sample)>,
+) -> Result<(), Memory>
+    ensures added { (es : List Event) → StandsAfter es state.now
+        → OnOk result (made.new.items ≡ made.old.items ++ edges_after thread es event.now) }
+    ensures unchanged { OnErr result (made.new.items ≡ made.old.items) }
+{
+    let mut edges = next_edges(alloc, thread, state, event)?;
+    made.append(&mut edges)?;
+    Ok(())
+}
+
+// Adds to those made the edges of the body, whose note is the next one of the thread of which this is known,
+// ascending. Where there is no memory none is added.
+fn add_due(
     alloc: Global,
     thread: ThreadId,
     state: &ThreadState,
     body: &Body,
-) -> Result<Vec<(Edge, Sample)>, Memory>
-    ensures { (es : List Event) → StandsAfter es state.now
-        → IfOk result
-        (λ edges. edges.items ≡ edges_due thread (with_body es body.now) (length es) body.now) }
+    made: &mut Vec<(Edge, Sample)>,
+) -> Result<(), Memory>
+    ensures added { (es : List Event) → StandsAfter es state.now
+        → OnOk result (made.new.items ≡ made.old.items
+        ++ edges_due thread (with_body es body.now) (length es) body.now) }
+    ensures unchanged { OnErr result (made.new.items ≡ made.old.items) }
 {
     match *body {
-        Body::Happened(event) => next_edges(alloc, thread, state, &event),
-        Body::Ended { .. } => Ok(Vec::new(alloc)),
+        Body::Happened(event) => add_next_edges(alloc, thread, state, &event, made),
+        Body::Ended { .. } => Ok(()),
     }
 }
 
@@ -72,39 +93,30 @@ fn makes_none(body: &Body) -> bool
     }
 }
 
-// Makes every growth that the note wants, where it may come next: room for it in the intake, and its
-// edges among those made.
-fn prepare(
-    alloc: Global,
-    intake: &mut Intake,
-    made: &mut Vec<(Edge, Sample)>,
-    note: &Note,
-) -> Result<(), Refused>
-    ensures next { OnOk result
-        (note_refusal intake.old.limits intake.old.stream note.now ≡ None) }
-    ensures reserved { OnOk result (1 ≤ spare_of intake.new note.now.thread) }
-    ensures grown { OnOk result
-        (made.new.items ≡ made.old.items ++ edges_of_next intake.old.stream note.now) }
-    ensures refused { IfErr result
-        (λ why. IsRefusedFor intake.old.limits intake.old.stream note.now why) }
-    ensures unchanged { OnErr result (made.new.items ≡ made.old.items) }
+// Why the note isn't accepted, where there is no memory for its edges: for that, if it may come next.
+fn refusal_without_memory(intake: &mut Intake, note: &Note) -> Refused
+    ensures refused { IsRefusedFor intake.old.limits intake.old.stream note.now result }
     ensures limits { intake.new.limits ≡ intake.old.limits }
     ensures stream { intake.new.stream ≡ intake.old.stream }
 {
-    intake.ready(note)?;
-    let mut edges = due(alloc, note.thread, intake.state(note.thread), &note.body)?;
-    made.append(&mut edges)?;
-    Ok(())
+    match intake.ready(note) {
+        Ok(()) => Refused::Memory,
+        Err(refused) => refused,
+    }
 }
 
-/// Accepts the note, where it may come next, once every growth that it wants was made: room for it in the
-/// intake, and its edges among those made. One that makes none is offered at once.
+/// Accepts the note, where it may come next, and adds its edges to those made, which otherwise stay as they
+/// were.
+///
+/// The edges are found before the note is offered, so that the intake looks through the locks that the thread
+/// holds once. A note that makes none is offered at once.
 pub fn accept_with_edges(
     alloc: Global,
     intake: &mut Intake,
     made: &mut Vec<(Edge, Sample)>,
     note: &Note,
 ) -> Result<Accepted, Refused>
+    requires known { note.now.thread < intake.old.limits.threads }
     ensures offered { HasOffered intake.old.limits intake.old.stream intake.new.stream note.now
         result }
     ensures grown { OnOk result
@@ -115,8 +127,18 @@ pub fn accept_with_edges(
     if makes_none(&note.body) {
         return intake.offer(*note);
     }
-    prepare(alloc, intake, made, note)?;
-    Ok(intake.accept(note))
+    let before = made.len();
+    let state = intake.state(note.thread);
+    let Ok(()) = add_due(alloc, note.thread, state, &note.body, made) else {
+        return Err(refusal_without_memory(intake, note));
+    };
+    match intake.offer(*note) {
+        Ok(accepted) => Ok(accepted),
+        Err(refused) => {
+            made.truncate(before);
+            Err(refused)
+        }
+    }
 }
 
 // Pops the front note, which was seen.
@@ -167,6 +189,7 @@ impl LaneInput {
         intake: &mut Intake,
         made: &mut Vec<(Edge, Sample)>,
     ) -> Result<Pulled, PullFault>
+        requires known { thread < intake.old.limits.threads }
         ensures pull { IsSidePull intake.old.limits thread
             (record {
               input = pulling_of self.old;

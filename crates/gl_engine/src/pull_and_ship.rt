@@ -46,18 +46,20 @@ fn ship_one<R: Wait>(
 }
 
 // Ships the edges to their shards, in order, up to one that can't be sent: the worker of its shard is gone.
+// None is left, and the list's memory serves the next ones.
 fn ship<R: Wait>(
     rt: &R,
     outlets: &mut Vec<Outlet>,
-    made: Vec<(Edge, Sample)>,
+    made: &mut Vec<(Edge, Sample)>,
 ) -> Result<(), RunFault>
     requires shards { ReachShards outlets.old.items }
-    ensures ships { Ships made.items outlets.old.items outlets.new.items result }
+    ensures ships { Ships made.old.items outlets.old.items outlets.new.items result }
     ensures stopped { (before : List (Edge × Sample)) → HaveShipped outlets.old.items before
         → IfErr result
-        (IsGoneAt (before ++ made.items) (map (λ o. o.sent) outlets.new.items)) }
+        (IsGoneAt (before ++ made.old.items) (map (λ o. o.sent) outlets.new.items)) }
+    ensures none { made.new.items ≡ [] }
 {
-    for (edge, sample) in made {
+    for (edge, sample) in made.drain(..) {
         if let Err(shard) = ship_one(rt, outlets, edge, sample) {
             return Err(RunFault::Gone { shard });
         }
@@ -78,7 +80,8 @@ fn has_pulled(thread: ThreadId, pulled: &Result<Pulled, PullFault>) -> Result<bo
     }
 }
 
-// Pulls the next note off the thread's lane, if there is one, and makes its edges. Whether there was one.
+// Pulls the next note off the thread's lane, if there is one, and adds its edges to those made. Whether there
+// was one.
 fn pull_at(
     alloc: Global,
     thread: ThreadId,
@@ -87,10 +90,9 @@ fn pull_at(
     made: &mut Vec<(Edge, Sample)>,
 ) -> Result<bool, RunFault>
     requires known { thread < intake.old.limits.threads }
-    requires none { made.old.items ≡ [] }
     requires keeps { KeepsNotes intake.old inputs.old.items }
     ensures pulls_on { PullsOn 1 thread intake.old intake.new inputs.old.items
-        inputs.new.items made.new.items result }
+        inputs.new.items made.old.items made.new.items result }
     ensures moved { IfOk result (HasMoved intake.old.stream intake.new.stream) }
 {
     let input = &mut inputs[thread.number() as usize];
@@ -98,8 +100,8 @@ fn pull_at(
     has_pulled(thread, &pulled)
 }
 
-// Pulls the next notes off the thread's lane, as many as a turn may at most, and makes their edges.
-// Whether there was one.
+// Pulls the next notes off the thread's lane, as many as a turn may at most, and adds their edges to those
+// made. Whether there was one.
 fn pull_some(
     alloc: Global,
     thread: ThreadId,
@@ -108,20 +110,14 @@ fn pull_some(
     made: &mut Vec<(Edge, Sample)>,
 ) -> Result<bool, RunFault>
     requires known { thread < intake.old.limits.threads }
-    requires none { made.old.items ≡ [] }
     requires keeps { KeepsNotes intake.old inputs.old.items }
     ensures pulls_on { PullsOn 64 thread intake.old intake.new inputs.old.items
-        inputs.new.items made.new.items result }
+        inputs.new.items made.old.items made.new.items result }
     ensures moved { IfOk result (HasMoved intake.old.stream intake.new.stream) }
 {
     let mut moved = false;
-    // what a note makes goes from here to those made, and its memory serves the next one
-    let mut next = Vec::new(alloc);
     for _ in 0..BURST {
-        let pulled = pull_at(alloc, thread, inputs, intake, &mut next)?;
-        let Ok(()) = made.append(&mut next) else {
-            return Err(RunFault::Memory);
-        };
+        let pulled = pull_at(alloc, thread, inputs, intake, made)?;
         if !pulled {
             return Ok(moved);
         }
@@ -130,47 +126,54 @@ fn pull_some(
     Ok(moved)
 }
 
-// Pulls notes off the thread's lane, if there are any, and ships their edges. Whether there was one.
+// Pulls notes off the thread's lane, if there are any, and ships their edges, by way of this empty list.
+// Whether there was one.
 fn turn<R: Wait>(
     rt: &R,
     alloc: Global,
     thread: ThreadId,
     inputs: &mut Vec<LaneInput>,
     intake: &mut Intake,
+    made: &mut Vec<(Edge, Sample)>,
     outlets: &mut Vec<Outlet>,
 ) -> Result<bool, RunFault>
     requires known { thread < intake.old.limits.threads }
+    requires none { made.old.items ≡ [] }
     requires shards { ReachShards outlets.old.items }
     requires kept { KeepsUp intake.old.limits inputs.old.items intake.old.stream outlets.old.items }
     ensures goes_on { GoesOn intake.old intake.new inputs.old.items inputs.new.items
         outlets.old.items outlets.new.items result }
     ensures moved { IfOk result (HasMoved intake.old.stream intake.new.stream) }
+    ensures none { OnOk result (made.new.items ≡ []) }
 {
-    let mut made = Vec::new(alloc);
-    let pulled = pull_some(alloc, thread, inputs, intake, &mut made)?;
+    let pulled = pull_some(alloc, thread, inputs, intake, made)?;
     ship(rt, outlets, made)?;
     Ok(pulled)
 }
 
-// A turn of each thread. Whether a note was pulled.
+// A turn of each thread, all by way of this empty list. Whether a note was pulled.
 fn round<R: Wait>(
     rt: &R,
     alloc: Global,
     threads: u32,
     inputs: &mut Vec<LaneInput>,
     intake: &mut Intake,
+    made: &mut Vec<(Edge, Sample)>,
     outlets: &mut Vec<Outlet>,
 ) -> Result<bool, RunFault>
     requires all { threads ≡ intake.old.limits.threads }
+    requires none { made.old.items ≡ [] }
     requires shards { ReachShards outlets.old.items }
     requires kept { KeepsUp intake.old.limits inputs.old.items intake.old.stream outlets.old.items }
     ensures goes_on { GoesOn intake.old intake.new inputs.old.items inputs.new.items
         outlets.old.items outlets.new.items result }
     ensures moved { IfOk result (HasMoved intake.old.stream intake.new.stream) }
+    ensures none { OnOk result (made.new.items ≡ []) }
 {
     let mut moved = false;
     for number in 0..threads {
-        let pulled = turn(rt, alloc, ThreadId::new(number), inputs, intake, outlets)?;
+        let thread = ThreadId::new(number);
+        let pulled = turn(rt, alloc, thread, inputs, intake, made, outlets)?;
         moved = moved || pulled;
     }
     Ok(moved)
@@ -192,13 +195,14 @@ fn pull_until_ended<R: Wait>(
         outlets.old.items outlets.new.items result }
     ensures ended { OnOk result (HaveEndedBelow intake.new.stream intake.old.limits.threads) }
 {
-    ship(rt, outlets, made)?;
+    let mut made = made;
+    ship(rt, outlets, &mut made)?;
     let mut looks: u32 = 0;
     for _ in rt.forever() {
         if intake.all_ended() {
             return Ok(());
         }
-        if round(rt, alloc, threads, inputs, intake, outlets)? {
+        if round(rt, alloc, threads, inputs, intake, &mut made, outlets)? {
             looks = 0;
         } else {
             pause(rt, looks);

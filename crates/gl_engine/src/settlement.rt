@@ -3,11 +3,11 @@ ghost use Rattle.std.specs.Prelude.{◌≡◌, IfOk, IfErr, IfNone, IfSome, IsOk
 ghost use Rattle.gl_engine.specs.Collecting.{lanes_of};
 ghost use Rattle.gl_engine.specs.Gathering.{AreOurs};
 ghost use Rattle.gl_engine.specs.Receipts.{AreComplete, AreOfRecorders};
-ghost use Rattle.gl_engine.specs.Settling.{HaveEndedBelow, IsFirstUnended, IsMemoryOrGone, IsSettleFault, IsSettledAlone, IsSettledFrom, IsUnsettledFault};
+ghost use Rattle.gl_engine.specs.Settling.{told, HaveEndedBelow, IsFirstUnended, IsMemoryOrGone, IsSettleFault, IsSettledAlone, IsSettledFrom, IsUnsettledFault};
 
 use crate::collector::Collector;
 use crate::faults::{SettleFault, UnsettledFault};
-use crate::gathered::Gathered;
+use crate::gathered::{Gathered, RunFault};
 use crate::receipt::Receipt;
 use crate::receipts::{confirm_all, first_missing, first_strange};
 use crate::settled::Settled;
@@ -27,6 +27,17 @@ fn first_unended(threads: u32, intake: &Intake) -> Option<ThreadId>
         }
     }
     None
+}
+
+// What settling answers for what went wrong in the run.
+fn settle_fault(fault: RunFault) -> SettleFault
+    ensures { result ≡ told fault }
+{
+    match fault {
+        RunFault::Memory => SettleFault::Memory,
+        RunFault::Gone { shard } => SettleFault::Gone { shard },
+        RunFault::Broken { thread, refused } => SettleFault::Broken { thread, refused },
+    }
 }
 
 impl Gathered {
@@ -63,7 +74,10 @@ impl Gathered {
                 gathered: self,
             });
         }
-        self.settle_all(receipts)
+        match self.settle_all(receipts) {
+            Ok(settled) => Ok(settled),
+            Err(fault) => Err(settle_fault(fault)),
+        }
     }
 }
 

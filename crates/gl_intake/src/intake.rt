@@ -134,7 +134,7 @@ fn count_refusal(expected: u32, got: u32) -> Option<Refused>
 fn empty_logs(alloc: Global, threads: u32) -> Result<Vec<Vec<Event>>, Memory>
     ensures { IfOk result (λ logs. AreLogs threads [] logs.items) }
 {
-    let mut logs = Vec::new(alloc);
+    let mut logs = Vec::with_capacity(alloc, threads as usize)?;
     for thread in 0..threads {
         logs.push(Vec::new(alloc))?;
     }
@@ -145,8 +145,9 @@ fn empty_logs(alloc: Global, threads: u32) -> Result<Vec<Vec<Event>>, Memory>
 fn fresh_cursors(alloc: Global, limits: &Limits) -> Result<Vec<ThreadCursor>, Memory>
     ensures { IfOk result (λ cursors. AreCursors limits.now [] cursors.items) }
 {
-    let mut cursors = Vec::new(alloc);
-    for thread in 0..limits.threads() {
+    let threads = limits.threads();
+    let mut cursors = Vec::with_capacity(alloc, threads as usize)?;
+    for thread in 0..threads {
         cursors.push(ThreadCursor {
             taker: Taker::new(ThreadId::new(thread), limits),
             has_ended: false,

@@ -36,13 +36,22 @@ abbrev pub HasMoved : List Note → List Note → Bool → Type 0
 HasMoved before after true = length before < length after
 HasMoved before after false = after ≡ before
 
--- pulls off the thread's lane, at most so many, went on from there: the collector's inputs and edges are those of what was collected, these
--- edges were made; lanes and limits stay, what was collected stays, and where something goes wrong that is to blame: never a worker
+-- the edges of the notes that came were added to those made: beside any that were shipped, these
+-- are all that the notes make, if they were before
+abbrev pub AddsEdges : List Note → List (Edge × Sample) → List Note → List (Edge × Sample)
+    → Type 0
+AddsEdges before made after more =
+    (shipped : List (Edge × Sample)) → shipped ++ made ≡ made_by before
+    → shipped ++ more ≡ made_by after
+
+-- pulls off the thread's lane, at most so many, went on from there: the collector's inputs and edges
+-- are those of what was collected, and the edges were added to those made; lanes and limits stay, what
+-- was collected stays, and where something goes wrong that is to blame: never a worker
 pub record PullsOn {A : Type 0} (most thread : ℕ) (before after : Collected)
-    (inputs later : List LaneInput) (pairs : List (Edge × Sample)) (result : Result A RunFault)
+    (inputs later : List LaneInput) (made more : List (Edge × Sample)) (result : Result A RunFault)
     : Type 0 where
   pub keeps : IsCollector before.limits later after.stream (made_by after.stream) before.limits
-  pub made : OnOk result (made_by before.stream ++ pairs ≡ made_by after.stream)
+  pub added : AddsEdges before.stream made after.stream more
   pub limits : after.limits ≡ before.limits
   pub lanes : map lane_of later ≡ map lane_of inputs
   pub grown : IsTurn most thread before.stream after.stream

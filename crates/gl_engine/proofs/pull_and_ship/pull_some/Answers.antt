@@ -1,6 +1,5 @@
 use Rattle.std.proofs.Common.{rules, ◌+◌, ◌∙◌, arith}
-use Rattle.std.proofs.lemmas.Result.{err_from_is_err_and}
-use Rattle.gl_engine.proofs.Handing.{made_on, pulled_on, pulled_prefix}
+use Rattle.gl_engine.proofs.Handing.{pulled_on, pulled_prefix}
 use Rattle.gl_engine.proofs.Running.{moved_again, moved_still}
 use Rattle.gl_engine.proofs.pull_and_ship.pull_some.Goals as goal
 
@@ -14,42 +13,29 @@ pub loop-preserved : goal.loop-preserved
 loop-preserved c =
     record {
       keeps = rw (c.loop.invariant.limits) at c.pull_at.ensures.pulls_on.keeps;
-      made = made_on _ _ _ _ _ _ c.in-Ok.ensures.items c.loop.invariant.made c.in_ok-pulled.ensures.pulls_on.made;
+      added = λ shipped are. c.pull_at.ensures.pulls_on.added shipped (c.loop.invariant.added shipped are);
       limits = c.pull_at.ensures.pulls_on.limits ∙ c.loop.invariant.limits;
       lanes = c.pull_at.ensures.pulls_on.lanes ∙ c.loop.invariant.lanes;
       grown = pulled_on c.loop.counter 1 (c.loop.counter + 1) c.args.thread _ _ _ (omega arith) c.loop.invariant.grown c.pull_at.ensures.pulls_on.grown;
-      none = c.in-Ok.ensures.other_items;
       moved = moved_again _ _ _ c.in_ok-pulled.pulled (pulled_prefix _ _ _ _ c.loop.invariant.grown) c.in_ok-pulled.ensures.moved c.if-not-pulled.false;
     }
 
 pub returns-in_err-pulled-clause-pulls_on : goal.returns-in_err-pulled-clause-pulls_on
 returns-in_err-pulled-clause-pulls_on c =
-    let p = err_from_is_err_and c.from_residual.result c.from_residual.ensures.1 in
     record {
       keeps = rw (c.loop.invariant.limits) at c.pull_at.ensures.pulls_on.keeps;
-      made = rw p.1 tt;
+      added = λ shipped are. c.pull_at.ensures.pulls_on.added shipped (c.loop.invariant.added shipped are);
       limits = c.pull_at.ensures.pulls_on.limits ∙ c.loop.invariant.limits;
       lanes = c.pull_at.ensures.pulls_on.lanes ∙ c.loop.invariant.lanes;
       grown = pulled_on c.loop.counter 1 64 c.args.thread _ _ _ (omega (arith, c.loop-test.true)) c.loop.invariant.grown c.pull_at.ensures.pulls_on.grown;
       blamed = search rules;
     }
 
-pub returns-in_default-clause-pulls_on : goal.returns-in_default-clause-pulls_on
-returns-in_default-clause-pulls_on c =
-    record {
-      keeps = rw (c.loop.invariant.limits) at c.pull_at.ensures.pulls_on.keeps;
-      made = tt;
-      limits = c.pull_at.ensures.pulls_on.limits ∙ c.loop.invariant.limits;
-      lanes = c.pull_at.ensures.pulls_on.lanes ∙ c.loop.invariant.lanes;
-      grown = pulled_on c.loop.counter 1 64 c.args.thread _ _ _ (omega (arith, c.loop-test.true)) c.loop.invariant.grown c.pull_at.ensures.pulls_on.grown;
-      blamed = tt;
-    }
-
 pub returns-then-not-pulled-clause-pulls_on : goal.returns-then-not-pulled-clause-pulls_on
 returns-then-not-pulled-clause-pulls_on c =
     record {
       keeps = rw (c.loop.invariant.limits) at c.pull_at.ensures.pulls_on.keeps;
-      made = made_on _ _ _ _ _ _ c.in-Ok.ensures.items c.loop.invariant.made c.in_ok-pulled.ensures.pulls_on.made;
+      added = λ shipped are. c.pull_at.ensures.pulls_on.added shipped (c.loop.invariant.added shipped are);
       limits = c.pull_at.ensures.pulls_on.limits ∙ c.loop.invariant.limits;
       lanes = c.pull_at.ensures.pulls_on.lanes ∙ c.loop.invariant.lanes;
       grown = pulled_on c.loop.counter 1 64 c.args.thread _ _ _ (omega (arith, c.loop-test.true)) c.loop.invariant.grown c.pull_at.ensures.pulls_on.grown;

@@ -17,6 +17,7 @@ loop-preserved-then-branch g c = record {
   lanes = c.round.ensures.goes_on.lanes ∙ c.loop.invariant.lanes;
   feeds = c.round.ensures.goes_on.feeds ∙ c.loop.invariant.feeds;
   grown = prefix_on _ _ _ c.loop.invariant.grown c.round.ensures.goes_on.grown;
+  none = c.in_ok-round.ensures.none;
   next = search rules;
   finite = search rules;
 }
@@ -28,6 +29,7 @@ loop-preserved g c = record {
   lanes = c.round.ensures.goes_on.lanes ∙ c.loop.invariant.lanes;
   feeds = c.round.ensures.goes_on.feeds ∙ c.loop.invariant.feeds;
   grown = prefix_on _ _ _ c.loop.invariant.grown c.round.ensures.goes_on.grown;
+  none = c.in_ok-round.ensures.none;
   next = search rules;
   finite = search rules;
 }

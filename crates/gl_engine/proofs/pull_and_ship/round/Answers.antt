@@ -32,6 +32,7 @@ loop-number-preserved g c = record {
   lanes = c.turn.ensures.goes_on.lanes ∙ c.loop-number.invariant.lanes;
   feeds = c.turn.ensures.goes_on.feeds ∙ c.loop-number.invariant.feeds;
   grown = prefix_on _ _ _ c.loop-number.invariant.grown c.turn.ensures.goes_on.grown;
+  none = c.in_ok-pulled.ensures.none;
   moved = elim c.if-moved.branch [
     | then-moved w ↦ subst (HasMoved c.args.intake.now.stream c.turn.new.intake.stream) (sym w.moved-is) (moved_first _ _ _ c.loop-number.moved c.in_ok-pulled.pulled c.loop-number.invariant.moved c.in_ok-pulled.ensures.moved w.if-moved.true)
     | else-moved w ↦ subst (HasMoved c.args.intake.now.stream c.turn.new.intake.stream) (sym w.moved-is) (moved_then _ _ _ c.loop-number.moved c.in_ok-pulled.pulled c.loop-number.invariant.moved c.in_ok-pulled.ensures.moved w.if-moved.false)

@@ -1,4 +1,4 @@
-use Rattle.std.proofs.Common.{◌≡◌, map}
+use Rattle.std.proofs.Common.{◌≡◌, [], map}
 use mathlib.Core.List.{IsPrefix}
 use Rattle.gl_engine.specs.bodies.Whole.{lane_of, HasMoved, KeepsUp}
 use Rattle.gl_engine.proofs.pull_and_ship.round.Given as goal
@@ -11,5 +11,6 @@ invariant-loop-number g l = record {
   lanes : map lane_of l.inputs.items ≡ map lane_of l.fn.inputs.items;
   feeds : map (λ o. o.feed) l.outlets.items ≡ map (λ o. o.feed) l.fn.outlets.items;
   grown : IsPrefix l.fn.intake.stream l.intake.stream;
+  none : l.made.items ≡ [];
   moved : HasMoved l.fn.intake.stream l.intake.stream l.moved;
 }

@@ -1,6 +1,7 @@
-use Rattle.std.proofs.Common.{rules}
+use Rattle.std.proofs.Common.{length, rules, ap, ◌∙◌}
 use Rattle.std.proofs.lemmas.Result.{err_from_is_err_and}
-use Rattle.gl_engine.proofs.Handing.{blamed_gone, blamed_pull, pulled_prefix, stops_gone, stops_pull}
+use Rattle.gl_engine.specs.Dealing.{dealt}
+use Rattle.gl_engine.proofs.Handing.{added_all, blamed_gone, blamed_pull, pulled_prefix, stops_gone, stops_pull}
 use Rattle.gl_engine.proofs.pull_and_ship.turn.Goals as goal
 
 pub returns-in_err-pulled-clause-goes_on : goal.returns-in_err-pulled-clause-goes_on
@@ -32,6 +33,22 @@ returns-in_err-ship-clause-goes_on g c =
           (blamed_gone c.args.intake.now.limits c.pull_some.new.inputs.items c.pull_some.new.intake.stream _ _ c.in_err-ship.field-0.0
           (c.in_err-ship.ensures.stopped _ c.requires.kept.shipped));
       stopped = rw (p.1, p.2)
-          (stops_gone c.args.intake.now.stream c.pull_some.new.intake.stream _ _ c.in_err-ship.field-0.0 c.in_ok-pulled.ensures.pulls_on.made
+          (stops_gone c.args.intake.now.stream c.pull_some.new.intake.stream _ _ c.in_err-ship.field-0.0 (added_all _ _ _ _ c.requires.none c.pull_some.ensures.pulls_on.added)
           (c.in_err-ship.ensures.stopped _ c.requires.kept.shipped));
+    }
+
+pub returns-clause-goes_on : goal.returns-clause-goes_on
+returns-clause-goes_on g c =
+    let all = added_all _ _ _ _ c.requires.none c.pull_some.ensures.pulls_on.added in
+    record {
+      keeps = record {
+        collector = c.pull_some.ensures.pulls_on.keeps;
+        shipped = c.in_ok-ship.ensures.ships.shipped _ c.requires.kept.shipped ∙ ap (dealt (length c.ship.new.outlets.items)) all;
+      };
+      limits = search rules;
+      lanes = search rules;
+      feeds = search rules;
+      grown = pulled_prefix 64 c.args.thread _ _ c.pull_some.ensures.pulls_on.grown;
+      blamed = tt;
+      stopped = tt;
     }

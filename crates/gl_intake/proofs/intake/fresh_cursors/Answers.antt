@@ -16,4 +16,4 @@ loop-thread-preserved c =
     }
 
 pub returns : goal.returns
-returns c = all_cursors _ _ (omega (arith, c.threads-thread-end.ensures.value)) c.loop-thread.invariant.each
+returns c = all_cursors _ _ (omega (arith, c.threads-threads.ensures.value)) c.loop-thread.invariant.each

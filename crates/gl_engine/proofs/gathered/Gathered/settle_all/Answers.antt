@@ -5,7 +5,6 @@ use Rattle.gl_intake.specs.Stream.{logs_of}
 use Rattle.gl_engine.specs.bodies.Breaking.{IsBlamed}
 use Rattle.gl_engine.specs.Gathering.{Gathering, AreOurs}
 use Rattle.gl_engine.specs.Receipts.{AreOwnBelow, AreThereBelow}
-use Rattle.gl_engine.specs.Settling.{IsMemoryOrGone}
 use Rattle.gl_engine.proofs.Confirming.{inputs_known, inputs_ours, inputs_settled, memory_or_gone}
 use Rattle.gl_engine.proofs.gathered.Gathered.settle_all.Goals as goal
 
@@ -36,11 +35,10 @@ returns-in-None-clause-settled c = record {
 
 pub returns-in-Some-clause-complete : goal.returns-in-Some-clause-complete
 returns-in-Some-clause-complete c =
-    subst IsMemoryOrGone (sym c.settle_fault.ensures)
-    (memory_or_gone c.self.inside.session c.self.inside.limits c.self.inside.inputs.items c.args.receipts.now c.self.invariant.count
+    memory_or_gone c.self.inside.session c.self.inside.limits c.self.inside.inputs.items c.args.receipts.now c.self.invariant.count
     (subst (λ (g : Gathering). AreOurs g c.args.receipts.now) (sym c.self.view_is) c.requires.ours)
     (subst (λ (g : Gathering). AreOwnBelow g.session g.limits.threads c.args.receipts.now (length c.args.receipts.now)) (sym c.self.view_is) c.requires.complete.own)
     c.self.inside.intake.stream
     (subst (λ (g : Gathering). AreThereBelow c.args.receipts.now g.limits.threads) (sym c.self.view_is) c.requires.complete.all)
     c.confirm_all.ensures.confirmed c.in-Some.fault
-    (subst (λ f. IfSome f (IsBlamed c.self.inside.limits c.self.inside.inputs.items c.self.inside.intake.stream)) c.in-Some.is c.self.invariant.blamed))
+    (subst (λ f. IfSome f (IsBlamed c.self.inside.limits c.self.inside.inputs.items c.self.inside.intake.stream)) c.in-Some.is c.self.invariant.blamed)
