@@ -1,7 +1,6 @@
 -- What numbering locks and places does.
-use Rattle.std.specs.Prelude.{◌≡◌, ℕ, ◌+◌, ◌^◌, List, [], ◌∷◌, None, length, position}
-use Rattle.std.specs.Str.{bytes_eq}
-use Rattle.gl_std.specs.Names.{number_of, with_new}
+use Rattle.std.specs.Prelude.{◌≡◌, ℕ, List, [], ◌∷◌}
+use Rattle.gl_std.specs.Names.{number_of, with_new, HaveNoNumber}
 use Rattle.gl_std.specs.declared.names.numbering.NamesFault.{NamesFault}
 use Rattle.gl_std.specs.declared.names.numbering.NamesFault.TheVariants as names_fault
 use Rattle.gl_c.specs.Calls.{IsOneOf}
@@ -12,10 +11,6 @@ use Rattle.gl_c.specs.declared.session_state.SessionState.{SessionState}
 abbrev pub names_code : NamesFault → ℕ
 names_code names_fault.Full = NAMES
 names_code names_fault.Memory = MEMORY
-
--- the name is new, and there are as many names as there may be
-abbrev pub HaveNoNumber : List (List ℕ) → List ℕ → Type 0
-HaveNoNumber names name = (position (bytes_eq name) names ≡ None) × (length names + 1 ≡ 2 ^ 32)
 
 -- the name got its number among these names, which it joined where it is new; or nothing changed
 pub record IsNumbering (old : List (List ℕ)) (name : List ℕ) (was answer told : ℕ) (new : List (List ℕ)) : Type 0 where

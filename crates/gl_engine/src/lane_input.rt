@@ -15,7 +15,7 @@ ghost use Rattle.gl_engine.specs.Keeping.{pulling_of, BreaksForCause};
 ghost use Rattle.gl_engine.specs.bodies.Fronts.{IsFront};
 
 use crate::pulled::{PullFault, Pulled};
-use gl_edges::{Edge, Sample, next_edges};
+use gl_edges::{Edge, Sample, add_next_edges};
 use gl_event::{Body, Event, Memory, Note, ThreadId, ThreadState};
 use gl_intake::{Accepted, Intake, Refused};
 use gl_lane::LaneOut;
@@ -42,24 +42,6 @@ fn pulled(accepted: &Accepted) -> Pulled
         Accepted::Event { place } => Pulled::Event { place },
         Accepted::Ended { count } => Pulled::Ended { count },
     }
-}
-
-// Adds to those made the edges that the event would make as the next one of the thread of which this is
-// known, ascending. Where there is no memory none is added.
-fn add_next_edges(
-    alloc: Global,
-    thread: ThreadId,
-    state: &ThreadState,
-    event: &Event,
-    made: &mut Vec<(Edge, Sample)>,
-) -> Result<(), Memory>
-    ensures added { (es : List Event) → StandsAfter es state.now
-        → OnOk result (made.new.items ≡ made.old.items ++ edges_after thread es event.now) }
-    ensures unchanged { OnErr result (made.new.items ≡ made.old.items) }
-{
-    let mut edges = next_edges(alloc, thread, state, event)?;
-    made.append(&mut edges)?;
-    Ok(())
 }
 
 // Adds to those made the edges of the body, whose note is the next one of the thread of which this is known,

@@ -8,6 +8,7 @@ mod faults;
 mod pieces;
 mod renumbered;
 mod rewritten;
+mod seeds;
 mod tables;
 mod texts;
 

@@ -454,9 +454,12 @@ impl Wanted<Guard> for (u32, LockMode) {
 
 // Whether the set of these locks has those.
 fn has_guards(alloc: Global, locks: &[(u32, LockMode)], wants: &[(u32, LockMode)]) -> bool {
-    match guards_of(alloc, locks) {
-        Some(guards) => are_wanted(Guards::new(guards).into_vec().as_slice(), wants),
-        None => false,
+    let Some(guards) = guards_of(alloc, locks) else {
+        return false;
+    };
+    match Guards::new(guards).into_vec() {
+        Ok(list) => are_wanted(list.as_slice(), wants),
+        Err(_) => false,
     }
 }
 
@@ -467,4 +470,5 @@ const S: LockMode = LockMode::Shared;
 fn guards_of_locks(rt: HostRuntime) {
     let locks = &[(3, S), (1, X), (3, X), (3, S)];
     assert!(rt; has_guards(rt.alloc(), locks, &[(1, X), (3, X), (3, S)]));
+    assert!(rt; has_guards(rt.alloc(), &[(2, S), (1, X), (2, S)], &[(1, X), (2, S)]));
 }

@@ -100,15 +100,16 @@ const CASES: &[Case] = &[
         shard: 7,
         sums: Some([4, 6, 28]),
     },
-    // One thread sends through a feed with room for one edge, and another one receives.
+    // One thread sends through a feed with room for one edge, and another one receives. The gate is passed by
+    // each of them, however many there are.
     Case {
-        name: "thousand_edges",
+        name: "thousands_of_edges",
         room: 1,
-        edges: 1_000,
+        edges: 3_000,
         course: Course::Ended,
         at_once: true,
-        shard: 0,
-        sums: None,
+        shard: 3,
+        sums: Some([3_000, 4_498_500, 9_000]),
     },
 ];
 
