@@ -5,7 +5,6 @@ ghost use Rattle.gl_event.specs.Bounds.{Bounds};
 ghost use Rattle.gl_event.specs.States.{StandsAfter};
 ghost use Rattle.gl_event.specs.declared.events.Event.{Event};
 ghost use Rattle.gl_event.specs.declared.notes.Note.{Note};
-ghost use Rattle.gl_edges.specs.Edges.{edges_after};
 ghost use Rattle.gl_intake.specs.Stream.{HasOffered, IsRefusedFor};
 ghost use Rattle.gl_world.specs.Keeping.{with_body};
 ghost use Rattle.gl_world.specs.Machine.{edges_due};
