@@ -466,6 +466,38 @@ static void deep_lock(void)
     goodlock_session_free(&session);
 }
 
+/* More than 2^16 notes, nearly all of one thread, and both reports of them. */
+static void many_notes(void)
+{
+    goodlock_session session;
+    goodlock_lane lanes[2];
+    goodlock_report report = {NULL};
+    uint32_t at = 0, wrong = 0;
+    open_two(&session, lanes, 4000);
+    for (uint32_t i = 0; i < 20000; i++) {
+        wrong += goodlock_acquire(&lanes[0], 0, 0) != GOODLOCK_OK;
+        wrong += goodlock_acquire(&lanes[0], 1, 1) != GOODLOCK_OK;
+        wrong += goodlock_release(&lanes[0], 1, 1) != GOODLOCK_OK;
+        wrong += goodlock_release(&lanes[0], 0, 0) != GOODLOCK_OK;
+        if (i % 1000 == 999)
+            pull_all(&session);
+    }
+    check(wrong == 0, "80,000 events are recorded");
+    acquire_two(&lanes[1], 1, 0);
+    release_two(&lanes[1], 0, 1);
+    pull_all(&session);
+    expect("report so far", goodlock_report_so_far(&session, 2, 4, 10, &report), GOODLOCK_OK);
+    check(is_text(&session, &report, EXPECTED), "the report so far of 80,004 events");
+    goodlock_report_free(&report);
+    for (int i = 0; i < 2; i++)
+        end_lane(&session, &lanes[i]);
+    expect("settle", goodlock_settle(&session, &at), GOODLOCK_OK);
+    expect("settled report", goodlock_settled_report(&session, 2, 4, 10, &report), GOODLOCK_OK);
+    check(is_text(&session, &report, EXPECTED), "the settled report of 80,004 events");
+    goodlock_report_free(&report);
+    goodlock_session_free(&session);
+}
+
 static void many_threads(void)
 {
     static goodlock_lane lanes[1024];
@@ -656,6 +688,7 @@ int main(int count, char **words)
     } else if (strcmp(word, "limits") == 0) {
         held_locks();
         deep_lock();
+        many_notes();
         many_threads();
         names();
     } else if (strcmp(word, "memory") == 0) {
