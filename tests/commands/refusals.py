@@ -1,5 +1,5 @@
 #!/usr/bin/env python3
-"""Refuses memory, reads, writes and threads to a program, one call after the other, and spoils its input and output.
+"""Refuses memory, reads, writes, threads and random bytes to a program, one call after the other, and spoils its input and output.
 
     refusals.py [--commands LIST] PROGRAM
 
@@ -187,7 +187,7 @@ def given(words):
 
 class Run(typing.NamedTuple):
     answer: tuple  # standard output, standard error, status
-    refused: str  # a sign for each refused call: a descriptor, `t` for a thread, or of memory as `started_before` reads
+    refused: str  # a sign for each refused call: a descriptor, `t` for a thread, `n`, or of memory as `started_before` reads
 
 
 def started_before(run):
@@ -349,6 +349,14 @@ class Tests:
                 refused += run.answer == OUT_OF_MEMORY
             self.check_that(f"{words or 'no words'}, memory {how}", refused > 0, "no refusal was told")
 
+    def random_bytes(self, words, text):
+        """Where there are no random bytes for the names' seed, no input is read: that is told as a failed read."""
+        count = 0
+        for number, run in self.runner.sweep(words, text, "random", "once"):
+            self.check(f"{words}, random call {number}", [READ_FAILED], run)
+            count += 1
+        self.check_that(f"{words}, random", count >= 1, "no random bytes were asked for")
+
     def ends(self, words, text, ample):
         """Input that can't be read, output that can't be written."""
         output, errors, status = ample
@@ -395,7 +403,9 @@ def built_library(folder):
 def disturb(tests, words, name):
     """All disturbances of the command over the trace of this name; a command's others are of no name."""
     if name is None:
-        tests.ends(words, text_of(words, "opposite_order"), worked_traces.in_format(ANSWERS[words]["opposite_order"]))
+        text = text_of(words, "opposite_order")
+        tests.random_bytes(words, text)
+        tests.ends(words, text, worked_traces.in_format(ANSWERS[words]["opposite_order"]))
         for usage, status in USAGE.get(words, {}).items():
             tests.usage(usage, status)
         return

@@ -1,13 +1,13 @@
 /* A preload library that refuses calls of the program that it is loaded into.
 
-   REFUSE_CALLS   memory, read, write or thread: of which sort the refused call is
+   REFUSE_CALLS   memory, read, write, thread or random: of which sort the refused call is
    REFUSE_AT      the how manyeth call of that sort is refused, counted from 1
    REFUSE_HOW     once; onwards (this one and all after it); or, of reads and writes, interrupted (once, by EINTR) and
                   nothing (once, by the answer that no byte was moved)
    REFUSE_SHORT   if set, each read and write moves one byte at most
    REFUSE_TELL    a file descriptor to which a byte goes for each refused call: the descriptor that a read or write was
                   on, as a digit; of memory how many threads had been started by then, as a letter (`a` none, `b` one,
-                  and so on, `z` all beyond); of a thread `t`
+                  and so on, `z` all beyond); of a thread `t`, of random bytes `n`
 
    A refused call does nothing else. Memory that the C library takes for itself isn't counted. */
 
@@ -152,6 +152,17 @@ OPEN void *mremap(void *old, size_t old_size, size_t size, int flags, ...)
     if (refuses_memory())
         return MAP_FAILED;
     return (void *)syscall(SYS_mremap, old, old_size, size, flags, where);
+}
+
+/* ---- random bytes */
+
+OPEN int getentropy(void *bytes, size_t size)
+{
+    REAL(getentropy);
+    if (real_getentropy != NULL && !refuses("random", 'n'))
+        return real_getentropy(bytes, size);
+    errno = EIO;
+    return -1;
 }
 
 /* ---- reading and writing */
