@@ -1,9 +1,9 @@
 //! What a session is run with, and how the words of the command line ask for it.
-ghost use Rattle.std.specs.Prelude.{◌≡◌, ◌<◌, ◌≤◌, ◌^◌, ℕ, false, None, codes, IfOk, IfSome};
-ghost use Rattle.clap.specs.Words.{app_of, found_of, rows_of, rule_of};
+ghost use Rattle.std.specs.Prelude.{◌≡◌, false, codes, option_map, IfOk};
+ghost use Rattle.clap.specs.Words.{app_of, rule_of};
 ghost use Rattle.clap.specs.declared.builder.command.Command.TheViews.{out-Command as fields_of};
-ghost use Rattle.gl_options.specs.Options.{live, session_app, recorders_rule, shards_rule, ring_rule, stream_rule, threads_rule, IsCommand};
-ghost use Rattle.gl_options.specs.declared.options.Command.{Command};
+ghost use Rattle.gl_options.specs.Options.{live, session_app, recorders_rule, shards_rule, ring_rule, stream_rule, threads_rule};
+ghost use Rattle.gl_options.specs.bodies.Searches.{IsAskedBy};
 ghost use Rattle.gl_options.specs.declared.options.Command.TheVariants.{Live};
 
 use crate::building::{flag_option, number_option, with_option};
@@ -146,10 +146,7 @@ pub(crate) fn live_command<'a>(alloc: Global) -> Result<clap::Command<'a>, Alloc
 
 /// What the session is run with that these values of the command's options ask for.
 pub(crate) fn live_in(options: &ArgMatches<'_>) -> Option<LiveOptions>
-    ensures some { IfSome result
-        (λ o. IsCommand (codes "live") (rows_of (found_of options.now)) (Live o)) }
-    ensures none { result ≡ None → (c : Command)
-        → IsCommand (codes "live") (rows_of (found_of options.now)) c → ⊥ }
+    ensures { IsAskedBy (codes "live") options.now (option_map Live result) }
 {
     let query = query_in(options)?;
     let recorders = number_in(options, "recorders", 1, 16)?;

@@ -1,10 +1,11 @@
 //! What the words of the command line ask for.
-ghost use Rattle.std.specs.Prelude.{◌≡◌, false, map, None, codes, IfOk, IfErr, IfSome};
+ghost use Rattle.std.specs.Prelude.{◌≡◌, false, map, codes, IfOk, IfErr};
 ghost use Rattle.clap.specs.declared.error.kind.ErrorKind.TheVariants.{InvalidValue};
-ghost use Rattle.clap.specs.Words.{app_of, found_of, kind_of, rows_of, subcommand_rows_of, with_subcommand};
+ghost use Rattle.clap.specs.Words.{app_of, kind_of, subcommand_rows_of, with_subcommand};
 ghost use Rattle.clap.specs.declared.builder.command.Command.TheViews.{out-Command as fields_of};
 ghost use Rattle.gl_options.specs.Options.{goodlock, program, predict, live, stats, replay, check};
-ghost use Rattle.gl_options.specs.Options.{Asks, IsCommand, IsEntered, IsUsageFor, IsUsageOf, NamesModes, jobs_of};
+ghost use Rattle.gl_options.specs.Options.{Asks, IsEntered, IsUsageFor, IsUsageOf, NamesModes, jobs_of};
+ghost use Rattle.gl_options.specs.bodies.Searches.{Finds, IsAskedBy};
 
 use crate::building::with_command;
 use crate::form::Form;
@@ -193,9 +194,7 @@ fn refused(alloc: Global) -> Usage
 
 // The command that these values of its options ask for.
 fn predict_in(options: &ArgMatches<'_>) -> Option<Command>
-    ensures some { IfSome result (IsCommand (codes "predict") (rows_of (found_of options.now))) }
-    ensures none { result ≡ None → (c : Command)
-        → IsCommand (codes "predict") (rows_of (found_of options.now)) c → ⊥ }
+    ensures { IsAskedBy (codes "predict") options.now result }
 {
     let query = query_in(options)?;
     let jobs = jobs_in(options)?;
@@ -208,9 +207,7 @@ fn predict_in(options: &ArgMatches<'_>) -> Option<Command>
 
 // The command that these values of its options ask for.
 fn stats_in(options: &ArgMatches<'_>) -> Option<Command>
-    ensures some { IfSome result (IsCommand (codes "stats") (rows_of (found_of options.now))) }
-    ensures none { result ≡ None → (c : Command)
-        → IsCommand (codes "stats") (rows_of (found_of options.now)) c → ⊥ }
+    ensures { IsAskedBy (codes "stats") options.now result }
 {
     let query = query_in(options)?;
     let jobs = jobs_in(options)?;
@@ -219,9 +216,7 @@ fn stats_in(options: &ArgMatches<'_>) -> Option<Command>
 
 // The command that these values of its options ask for.
 fn replay_in(options: &ArgMatches<'_>) -> Option<Command>
-    ensures some { IfSome result (IsCommand (codes "replay") (rows_of (found_of options.now))) }
-    ensures none { result ≡ None → (c : Command)
-        → IsCommand (codes "replay") (rows_of (found_of options.now)) c → ⊥ }
+    ensures { IsAskedBy (codes "replay") options.now result }
 {
     let jobs = jobs_in(options)?;
     Some(Command::Replay { jobs })
@@ -229,9 +224,7 @@ fn replay_in(options: &ArgMatches<'_>) -> Option<Command>
 
 // The command that these values of its options ask for.
 fn check_in(options: &ArgMatches<'_>) -> Option<Command>
-    ensures some { IfSome result (IsCommand (codes "check") (rows_of (found_of options.now))) }
-    ensures none { result ≡ None → (c : Command)
-        → IsCommand (codes "check") (rows_of (found_of options.now)) c → ⊥ }
+    ensures { IsAskedBy (codes "check") options.now result }
 {
     let jobs = jobs_in(options)?;
     Some(Command::Check { jobs })
@@ -239,10 +232,7 @@ fn check_in(options: &ArgMatches<'_>) -> Option<Command>
 
 // The command that was entered, where its options have values in their ranges.
 fn command_in(matches: &ArgMatches<'_>) -> Option<Command>
-    ensures some { IfSome result (IsEntered (subcommand_rows_of matches.now)) }
-    ensures none { result ≡ None → (c : Command)
-        → IsEntered (subcommand_rows_of matches.now) c
-        → ⊥ }
+    ensures { Finds (IsEntered (subcommand_rows_of matches.now)) result }
 {
     if let Some(options) = matches.subcommand_matches("predict") {
         return predict_in(options);
