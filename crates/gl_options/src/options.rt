@@ -1,10 +1,10 @@
 //! What the words of the command line ask for.
-ghost use Rattle.std.specs.Prelude.{◌≡◌, false, map, codes, IfOk, IfErr};
+ghost use Rattle.std.specs.Prelude.{◌≡◌, map, codes, IfOk, IfErr};
 ghost use Rattle.clap.specs.declared.error.kind.ErrorKind.TheVariants.{InvalidValue};
 ghost use Rattle.clap.specs.Words.{app_of, kind_of, subcommand_rows_of, with_subcommand};
-ghost use Rattle.clap.specs.declared.builder.command.Command.TheViews.{out-Command as fields_of};
 ghost use Rattle.gl_options.specs.Options.{goodlock, program, predict, live, stats, replay, check};
 ghost use Rattle.gl_options.specs.Options.{Asks, IsEntered, IsUsageFor, IsUsageOf, NamesModes, jobs_of};
+ghost use Rattle.gl_options.specs.bodies.Parts.{HasShape};
 ghost use Rattle.gl_options.specs.bodies.Searches.{Finds, IsAskedBy};
 
 use crate::building::with_command;
@@ -79,8 +79,7 @@ impl From<AllocError> for Usage {
 
 // The command that predicts.
 fn predict_command<'a>(alloc: Global) -> Result<clap::Command<'a>, AllocError>
-    ensures shape { IfOk result (λ c. app_of c ≡ predict) }
-    ensures local { IfOk result (λ c. (fields_of c).has_globals ≡ false) }
+    ensures { HasShape predict result }
 {
     reading(
         alloc,
@@ -92,8 +91,7 @@ fn predict_command<'a>(alloc: Global) -> Result<clap::Command<'a>, AllocError>
 
 // The command that counts.
 fn stats_command<'a>(alloc: Global) -> Result<clap::Command<'a>, AllocError>
-    ensures shape { IfOk result (λ c. app_of c ≡ stats) }
-    ensures local { IfOk result (λ c. (fields_of c).has_globals ≡ false) }
+    ensures { HasShape stats result }
 {
     reading(
         alloc,
@@ -105,8 +103,7 @@ fn stats_command<'a>(alloc: Global) -> Result<clap::Command<'a>, AllocError>
 
 // The command that writes the trace.
 fn replay_command<'a>(alloc: Global) -> Result<clap::Command<'a>, AllocError>
-    ensures shape { IfOk result (λ c. app_of c ≡ replay) }
-    ensures local { IfOk result (λ c. (fields_of c).has_globals ≡ false) }
+    ensures { HasShape replay result }
 {
     reading(
         alloc,
@@ -118,8 +115,7 @@ fn replay_command<'a>(alloc: Global) -> Result<clap::Command<'a>, AllocError>
 
 // The command that checks a report.
 fn check_command<'a>(alloc: Global) -> Result<clap::Command<'a>, AllocError>
-    ensures shape { IfOk result (λ c. app_of c ≡ check) }
-    ensures local { IfOk result (λ c. (fields_of c).has_globals ≡ false) }
+    ensures { HasShape check result }
 {
     reading(
         alloc,
