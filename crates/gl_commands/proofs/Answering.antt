@@ -30,7 +30,7 @@ use Rattle.gl_commands.specs.bodies.Halves.{EndsWith, HasHeardAll}
 use Rattle.gl_commands.specs.Ending.HasEndedUnder.{ended_so}
 use Rattle.gl_commands.specs.Ending.HasEndedLive.{confirmed, unconfirmed}
 use Rattle.gl_commands.specs.Ending.HasEndedStreamed.{confirmed as as_any}
-use Rattle.gl_commands.specs.bodies.Stops.{EndsUnwritten, HasAnswer, IfRefused, IfStopped, IsFaultIn, IsReportOf, SaysWhyNoReport}
+use Rattle.gl_commands.specs.bodies.Stops.{EndsUnwritten, HasAnswer, IfRefused, IfStopped, IsAnswerToEach, IsAnsweredBy, IsAnsweredInSession, IsFaultIn, IsReportOf, SaysWhyNoReport}
 use Rattle.gl_commands.specs.declared.answer.Printed.{Printed}
 use Rattle.gl_commands.specs.declared.ended.Ended.{Ended}
 use Rattle.gl_commands.specs.declared.ended.Ended.TheVariants as variant
@@ -124,6 +124,18 @@ pub memory_alone : (answer : Result Printed Ended) (E : Ended → Type 0) → If
 memory_alone (Ok p) E is holds = tt
 memory_alone (Err ended) E is holds = subst E (sym is) holds
 
+-- what is printed is answered to each text, where memory alone may be wanting
+pub answered_as : (IsAnswered : List ℕ → Answer → Type 0) (read : Result Trace ReadFault) (answer : Result Printed Ended) (from : Answer)
+    → IfOk answer (λ p. Prints p.text.items p.outcome ≡ from) → IfErr answer (λ ended. ended ≡ variant.Memory) → IsAnswerToEach IsAnswered read from → IsAnsweredBy IsAnswered read answer
+answered_as A read (Ok p) from is memory each = subst (IsAnswerToEach A read) (sym is) each
+answered_as A read (Err ended) from is memory each = subst (λ how. IfRefused how (λ line. IsAnswerToEach A read (Refusal line))) (sym memory) tt
+
+-- and in a session
+pub answered_in : (IsAnswered : List ℕ → Answer → Type 0) (read : Result Trace ReadFault) (answer : Result Printed Ended)
+    → IsAnsweredBy IsAnswered read answer → IsAnsweredInSession IsAnswered read answer
+answered_in A read (Ok p) is = is
+answered_in A read (Err ended) is = stopped_by ended (λ line. IsAnswerToEach A read (Refusal line)) is
+
 -- an answer to a text, written or refused, ends a command that read the text whole
 pub ends_as : (IsAnswered : List ℕ → Answer → Type 0) (text : List ℕ) (answered : Result Printed Ended) (old new : Option (List ℕ)) (failed : Bool) (ended : Ended)
     → IfOk answered (λ p. IsAnswered text (Prints p.text.items p.outcome)) → IfErr answered (λ how. IfRefused how (λ line. IsAnswered text (Refusal line)))
@@ -149,34 +161,32 @@ ends_as A text (Err variant.Unconfirmed) old new failed ended good bad how = abs
 -- and one that is the answer to each text of the trace that was read
 pub ends : (IsAnswered : List ℕ → Answer → Type 0) (turns : ℕ) (input : SourceUse) (read : Result Trace ReadFault) (answered : Result Printed Ended) (output : SinkUse) (ended : Ended)
     → HasHeardAll turns input read
-    → IfOk answered (λ p. (text : List ℕ) → trace_of greatest text ≡ read → IsAnswered text (Prints p.text.items p.outcome))
-    → IfErr answered (λ how. IfRefused how (λ line. (text : List ℕ) → trace_of greatest text ≡ read → IsAnswered text (Refusal line)))
+    → IsAnsweredBy IsAnswered read answered
     → EndsWith answered output.before output.after output.failed ended → HasEnded IsAnswered turns input output ended
-ends A turns input read (Ok p) output ended heard good bad how =
+ends A turns input read (Ok p) output ended heard good how =
     ended_so heard.text ended heard.whole (ends_as A heard.text (Ok p) output.before output.after output.failed ended (good heard.text heard.trace) tt how)
-ends A turns input read (Err why) output ended heard good bad how =
-    let said = refused_then why (λ line. (text : List ℕ) → trace_of greatest text ≡ read → A text (Refusal line)) (λ line. A heard.text (Refusal line)) (λ line each. each heard.text heard.trace) bad in
+ends A turns input read (Err why) output ended heard bad how =
+    let said = refused_then why (λ line. IsAnswerToEach A read (Refusal line)) (λ line. A heard.text (Refusal line)) (λ line each. each heard.text heard.trace) bad in
     ended_so heard.text ended heard.whole (ends_as A heard.text (Err why) output.before output.after output.failed ended tt said how)
 
 -- and so does that of a session, unless it isn't confirmed
 pub ends_live : (IsAnswered : List ℕ → Answer → Type 0) (turns : ℕ) (input : SourceUse) (read : Result Trace ReadFault) (answered : Result Printed Ended) (output : SinkUse) (ended : Ended)
     → HasHeardAll turns input read
-    → IfOk answered (λ p. (text : List ℕ) → trace_of greatest text ≡ read → IsAnswered text (Prints p.text.items p.outcome))
-    → IfErr answered (λ how. IfStopped how (λ line. (text : List ℕ) → trace_of greatest text ≡ read → IsAnswered text (Refusal line)))
+    → IsAnsweredInSession IsAnswered read answered
     → EndsWith answered output.before output.after output.failed ended → HasEndedLive IsAnswered turns input output ended
-ends_live A turns input read (Ok p) output ended heard good bad how =
-    confirmed ended (ends A turns input read (Ok p) output ended heard good tt how)
-ends_live A turns input read (Err (variant.Refused line)) output ended heard good bad how =
-    confirmed ended (ends A turns input read (Err (variant.Refused line)) output ended heard tt bad how)
-ends_live A turns input read (Err variant.Memory) output ended heard good bad how =
-    confirmed ended (ends A turns input read (Err variant.Memory) output ended heard tt tt how)
-ends_live A turns input read (Err variant.Unconfirmed) output ended heard good bad how =
+ends_live A turns input read (Ok p) output ended heard good how =
+    confirmed ended (ends A turns input read (Ok p) output ended heard good how)
+ends_live A turns input read (Err (variant.Refused line)) output ended heard bad how =
+    confirmed ended (ends A turns input read (Err (variant.Refused line)) output ended heard bad how)
+ends_live A turns input read (Err variant.Memory) output ended heard bad how =
+    confirmed ended (ends A turns input read (Err variant.Memory) output ended heard tt how)
+ends_live A turns input read (Err variant.Unconfirmed) output ended heard bad how =
     subst (HasEndedLive A turns input output) (sym how.0) (unconfirmed heard.text heard.whole how.1 how.2)
-ends_live A turns input read (Err variant.Clean) output ended heard good bad how = absurd bad
-ends_live A turns input read (Err variant.Cycles) output ended heard good bad how = absurd bad
-ends_live A turns input read (Err variant.Done) output ended heard good bad how = absurd bad
-ends_live A turns input read (Err variant.ReadFailed) output ended heard good bad how = absurd bad
-ends_live A turns input read (Err (variant.WriteFailed count)) output ended heard good bad how = absurd bad
+ends_live A turns input read (Err variant.Clean) output ended heard bad how = absurd bad
+ends_live A turns input read (Err variant.Cycles) output ended heard bad how = absurd bad
+ends_live A turns input read (Err variant.Done) output ended heard bad how = absurd bad
+ends_live A turns input read (Err variant.ReadFailed) output ended heard bad how = absurd bad
+ends_live A turns input read (Err (variant.WriteFailed count)) output ended heard bad how = absurd bad
 
 -- what is answered to a text that a session recorded as it came ends a command
 pub ends_streamed : (limits : Bounds) (IsAnswered : List ℕ → Answer → Type 0) (turns : ℕ) (input : SourceUse) (answered : Result Printed Ended) (output : SinkUse) (ended : Ended)

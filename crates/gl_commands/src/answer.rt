@@ -2,9 +2,9 @@
 //!
 //! A trace, a report and the names are given back by `drop`, each at one place of its own: wherever one goes out of
 //! scope instead, what it holds is proved to be given back part by part.
-ghost use Rattle.std.specs.Prelude.{◌≡◌, ℕ, Ok, List, IfOk, IfErr, OnOk};
+ghost use Rattle.std.specs.Prelude.{◌≡◌, Ok, IfOk, IfErr, OnOk};
 ghost use Rattle.gl_event.specs.Bounds.{greatest};
-ghost use Rattle.gl_std.specs.Trace.{trace_of, IsTraceOver};
+ghost use Rattle.gl_std.specs.Trace.{IsTraceOver};
 ghost use Rattle.gl_segments.specs.Clocks.{is_before, OrdersBy};
 ghost use Rattle.gl_segments.specs.Segments.{IsConsistent};
 ghost use Rattle.gl_edges.specs.Edges.{edges};
@@ -12,9 +12,9 @@ ghost use Rattle.gl_findings.specs.Reports.{report_with};
 ghost use Rattle.gl_findings.specs.declared.listing.Listing.TheVariants.{Cycles, Findings};
 ghost use Rattle.gl_report.specs.Counts.{stats_of, stats_text};
 ghost use Rattle.gl_commands.specs.Answer.{IsAnswer, IsPlainAnswer, counts, outcome_of, prediction, printed_report, replay};
-ghost use Rattle.gl_commands.specs.Answer.Answer.{Prints, Refusal};
+ghost use Rattle.gl_commands.specs.Answer.Answer.{Prints};
 ghost use Rattle.gl_commands.specs.bodies.Needed.{contents_for};
-ghost use Rattle.gl_commands.specs.bodies.Stops.{IfRefused, IsFaultIn, IsLoopOf, IsReportOf, SaysWhyNoReport};
+ghost use Rattle.gl_commands.specs.bodies.Stops.{IfRefused, IsAnsweredBy, IsFaultIn, IsLoopOf, IsReportOf, SaysWhyNoReport};
 
 use crate::ended::{Ended, Outcome};
 use crate::refusal_lines::{fault_line, inconsistent_line};
@@ -252,13 +252,7 @@ pub(crate) fn predicted(
     threads: usize,
 ) -> Result<Printed, Ended>
     requires { IfOk read (IsTraceOver greatest) }
-    ensures printed { IfOk result
-        (λ p. (text : List ℕ) → trace_of greatest text ≡ read
-        → IsAnswer (prediction listing query.now form) text (Prints p.text.items p.outcome)) }
-    ensures refused { IfErr result
-        (λ ended. IfRefused ended
-        (λ line. (text : List ℕ) → trace_of greatest text ≡ read
-        → IsAnswer (prediction listing query.now form) text (Refusal line))) }
+    ensures { IsAnsweredBy (IsAnswer (prediction listing query.now form)) read result }
 {
     let contents = contents_for(listing, form);
     let Reported { trace, report } = trace_and_report(rt, alloc, read, contents, query, threads)?;
@@ -293,13 +287,7 @@ pub(crate) fn counted(
     threads: usize,
 ) -> Result<Printed, Ended>
     requires { IfOk read (IsTraceOver greatest) }
-    ensures printed { IfOk result
-        (λ p. (text : List ℕ) → trace_of greatest text ≡ read
-        → IsAnswer (counts query.now) text (Prints p.text.items p.outcome)) }
-    ensures refused { IfErr result
-        (λ ended. IfRefused ended
-        (λ line. (text : List ℕ) → trace_of greatest text ≡ read
-        → IsAnswer (counts query.now) text (Refusal line))) }
+    ensures { IsAnsweredBy (IsAnswer (counts query.now)) read result }
 {
     let contents = Contents::Cycles;
     let Reported { trace, report } = trace_and_report(rt, alloc, read, contents, query, threads)?;
@@ -325,13 +313,7 @@ fn printed_trace(alloc: Global, trace: &Trace) -> Result<Printed, Ended>
 /// The trace of the texts that have this trace or first fault, written, or their first fault.
 pub(crate) fn replayed(alloc: Global, read: Result<Trace, ReadFault>) -> Result<Printed, Ended>
     requires { IfOk read (IsTraceOver greatest) }
-    ensures printed { IfOk result
-        (λ p. (text : List ℕ) → trace_of greatest text ≡ read
-        → IsPlainAnswer replay text (Prints p.text.items p.outcome)) }
-    ensures refused { IfErr result
-        (λ ended. IfRefused ended
-        (λ line. (text : List ℕ) → trace_of greatest text ≡ read
-        → IsPlainAnswer replay text (Refusal line))) }
+    ensures { IsAnsweredBy (IsPlainAnswer replay) read result }
 {
     let trace = trace_or_line(alloc, read)?;
     let answer = printed_trace(alloc, &trace);

@@ -1,17 +1,16 @@
 //! What is answered to a text by a session that records its trace again.
-ghost use Rattle.std.specs.Prelude.{◌≡◌, ℕ, Ok, List, IfOk, IfErr};
+ghost use Rattle.std.specs.Prelude.{◌≡◌, Ok, IfOk, IfErr};
 ghost use Rattle.gl_event.specs.Bounds.{greatest};
 ghost use Rattle.gl_edges.specs.Edges.{edges};
 ghost use Rattle.gl_findings.specs.Reports.{IsReportWith};
 ghost use Rattle.gl_live.specs.Faults.{IsLiveFault};
 ghost use Rattle.gl_live.specs.declared.faults.LiveFault.TheVariants.{Memory as OutOfMemory, Unconfirmed as NotConfirmed};
-ghost use Rattle.gl_std.specs.Trace.{trace_of, IsTraceOver};
+ghost use Rattle.gl_std.specs.Trace.{IsTraceOver};
 ghost use Rattle.gl_options.specs.Sessions.{AreOfSession};
 ghost use Rattle.gl_commands.specs.Answer.{IsAnswer};
-ghost use Rattle.gl_commands.specs.Answer.Answer.{Prints, Refusal};
 ghost use Rattle.gl_commands.specs.Sessions.{listing_of, session_prediction};
 ghost use Rattle.gl_commands.specs.bodies.Needed.{contents_of};
-ghost use Rattle.gl_commands.specs.bodies.Stops.{IfStopped, IsLoopOf};
+ghost use Rattle.gl_commands.specs.bodies.Stops.{IfStopped, IsAnsweredInSession, IsLoopOf};
 
 use crate::answer::{Printed, contents_for, printed_in, trace_or_line};
 use crate::ended::Ended;
@@ -110,14 +109,8 @@ fn session_answer<R: Threads + Wait + Sync, G: Gate + Sync>(
 ) -> Result<Printed, Ended>
     requires trace { IsTraceOver greatest trace.now }
     requires session { AreOfSession options.now }
-    ensures printed { IfOk result
-        (λ p. (text : List ℕ) → trace_of greatest text ≡ Ok trace.now
-        → IsAnswer (session_prediction options.now) text
-        (Prints p.text.items p.outcome)) }
-    ensures refused { IfErr result
-        (λ ended. IfStopped ended
-        (λ line. (text : List ℕ) → trace_of greatest text ≡ Ok trace.now
-        → IsAnswer (session_prediction options.now) text (Refusal line))) }
+    ensures { IsAnsweredInSession (IsAnswer (session_prediction options.now)) (Ok trace.now)
+        result }
 {
     let report = session_report(rt, alloc, trace, options, gate)?;
     let listing = listing_of(options);
@@ -137,14 +130,7 @@ pub(crate) fn recorded<R: Threads + Wait + Sync, G: Gate + Sync>(
 ) -> Result<Printed, Ended>
     requires over { IfOk read (IsTraceOver greatest) }
     requires session { AreOfSession options.now }
-    ensures printed { IfOk result
-        (λ p. (text : List ℕ) → trace_of greatest text ≡ read
-        → IsAnswer (session_prediction options.now) text
-        (Prints p.text.items p.outcome)) }
-    ensures refused { IfErr result
-        (λ ended. IfStopped ended
-        (λ line. (text : List ℕ) → trace_of greatest text ≡ read
-        → IsAnswer (session_prediction options.now) text (Refusal line))) }
+    ensures { IsAnsweredInSession (IsAnswer (session_prediction options.now)) read result }
 {
     let trace = trace_or_line(alloc, read)?;
     let answer = session_answer(rt, alloc, &trace, options, gate);

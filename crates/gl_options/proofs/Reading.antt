@@ -14,6 +14,7 @@ use Rattle.clap.specs.declared.error.kind.ErrorKind.TheVariants as kind
 use Rattle.gl_filters.specs.Asked.{Asked}
 use Rattle.gl_options.specs.Options.{Asks, AsksForSession, AsksIn, IsCommand, IsEntered, IsJobsIn, IsNumberAt, IsUsageFor, IsUsageOf, goodlock}
 use Rattle.gl_options.specs.Sessions.{CanRun}
+use Rattle.gl_options.specs.bodies.Searches.{Finds}
 use Rattle.gl_options.specs.declared.live_options.LiveOptions.{LiveOptions}
 use Rattle.gl_options.specs.declared.options.Command.{Command}
 use Rattle.gl_options.specs.declared.options.Command.TheVariants.{Predict, Findings, Live, Stats, Replay, Check}
@@ -68,18 +69,13 @@ pub entered_as : (m : ArgMatches) (name : Text) (rows : List Row) → subcommand
     → option_map (λ p. p.1) (subcommand_rows_of m) ≡ Some rows → subcommand_rows_of m ≡ Some (name, rows)
 entered_as m name rows named had = both_parts (subcommand_rows_of m) name rows (sym (name_of_rows m) ∙ named) had
 
--- a command that was entered with these values of its options
+-- what is found of a command that was entered with these values of its options
 pub if_entered : (m : ArgMatches) (name : Text) (rows : List Row) (r : Option Command) → subcommand_rows_of m ≡ Some (name, rows)
-    → IfSome r (IsCommand name rows) → IfSome r (IsEntered (subcommand_rows_of m))
-if_entered m name rows None there is = tt
-if_entered m name rows (Some c) there is = record { name = name; rows = rows; is_there = there; is_command = is }
-
--- and where they give none
-pub unread : (m : ArgMatches) (name : Text) (rows : List Row) → subcommand_rows_of m ≡ Some (name, rows)
-    → ((c : Command) → IsCommand name rows c → ⊥) → (c : Command) → IsEntered (subcommand_rows_of m) c → ⊥
-unread m name rows there none c of =
+    → Finds (IsCommand name rows) r → Finds (IsEntered (subcommand_rows_of m)) r
+if_entered m name rows None there none = λ c of.
     let same : (of.name, of.rows) ≡ (name, rows) = ap (λ o. unwrap_or o (name, rows)) (sym of.is_there ∙ there) in
     none c (subst (λ (p : Text × List Row). IsCommand p.0 p.1 c) same of.is_command)
+if_entered m name rows (Some c) there is = record { name = name; rows = rows; is_there = there; is_command = is }
 
 -- the name of the command that was entered
 entered_name : (m : ArgMatches) (c : Command) (name : Text) (of : IsEntered (subcommand_rows_of m) c) → of.name ≡ name → subcommand_name_of m ≡ Some name

@@ -5,6 +5,7 @@ ghost use Rattle.clap.specs.Words.{App, Rule, app_of, rule_of, with_rule, with_s
 ghost use Rattle.clap.specs.declared.builder.command.Command.TheViews.{out-Command as fields_of};
 ghost use Rattle.clap.specs.declared.builder.value_parser.ValueParser.TheVariants.{Signed};
 ghost use Rattle.gl_options.specs.Options.{flag_rule, option_rule};
+ghost use Rattle.gl_options.specs.bodies.Parts.{HasRule};
 
 use clap::builder::ValueParser;
 use clap::{Arg, ArgAction};
@@ -21,11 +22,11 @@ pub(crate) fn number_option<'a>(
     default: &'a str,
     help: &'a str,
 ) -> Arg<'a>
-    ensures rule { rule_of result
-        ≡ record (option_rule name.entry.now default.entry.now) {
+    ensures { HasRule
+        (record (option_rule name.entry.now default.entry.now) {
           parser = Some (Signed least greatest);
-        } }
-    ensures local { result.global ≡ false }
+        })
+        result }
 {
     Arg::new(alloc, name)
         .long(name)
@@ -37,8 +38,7 @@ pub(crate) fn number_option<'a>(
 
 /// An option that takes no value: its name, and what help says of it.
 pub(crate) fn flag_option<'a>(alloc: Global, name: &'a str, help: &'a str) -> Arg<'a>
-    ensures rule { rule_of result ≡ flag_rule name.entry.now }
-    ensures local { result.global ≡ false }
+    ensures { HasRule (flag_rule name.entry.now) result }
 {
     Arg::new(alloc, name)
         .long(name)

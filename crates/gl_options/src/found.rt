@@ -1,8 +1,8 @@
 //! What was read for the options of a command.
 ghost use Rattle.std.specs.Prelude.{◌≡◌, ◌<◌, ◌^◌, ℕ, None, codes, option_and_then, IfSome};
 ghost use Rattle.clap.specs.Words.{first_of, found_of, rows_of};
-ghost use Rattle.gl_filters.specs.Asked.{Asked};
 ghost use Rattle.gl_options.specs.Options.{AsksIn, IsFlagIn, IsFormIn, IsNumberAt, IsNumberIn, mode_named};
+ghost use Rattle.gl_options.specs.bodies.Searches.{Finds};
 
 use crate::form::Form;
 use clap::ArgMatches;
@@ -40,10 +40,7 @@ pub(crate) fn number_in(
     least: u32,
     greatest: u32,
 ) -> Option<u32>
-    ensures some { IfSome result
-        (IsNumberIn (rows_of (found_of matches.now)) id.now least greatest) }
-    ensures none { result ≡ None → (n : ℕ)
-        → IsNumberIn (rows_of (found_of matches.now)) id.now least greatest n → ⊥ }
+    ensures { Finds (IsNumberIn (rows_of (found_of matches.now)) id.now least greatest) result }
 {
     let number = number_at(matches, id)?;
     if number < least || number > greatest {
@@ -65,9 +62,7 @@ fn mode_in(matches: &ArgMatches<'_>) -> Option<Mode>
 
 /// The query that was read, where its options have values in their ranges.
 pub(crate) fn query_in(matches: &ArgMatches<'_>) -> Option<Query>
-    ensures some { IfSome result (λ q. AsksIn (rows_of (found_of matches.now)) q) }
-    ensures none { result ≡ None → (q : Asked)
-        → AsksIn (rows_of (found_of matches.now)) q → ⊥ }
+    ensures { Finds (AsksIn (rows_of (found_of matches.now))) result }
 {
     let mode = mode_in(matches)?;
     let len = number_at(matches, "len")?;

@@ -1,8 +1,10 @@
 //! How many threads read a trace and look for its edges, and how the words of the command line ask for them.
-ghost use Rattle.std.specs.Prelude.{◌≡◌, ℕ, false, None, IfOk, IfSome};
-ghost use Rattle.clap.specs.Words.{App, app_of, found_of, rows_of, rule_of, with_rule};
+ghost use Rattle.std.specs.Prelude.{◌≡◌, false, IfOk};
+ghost use Rattle.clap.specs.Words.{App, app_of, found_of, rows_of, with_rule};
 ghost use Rattle.clap.specs.declared.builder.command.Command.TheViews.{out-Command as fields_of};
 ghost use Rattle.gl_options.specs.Options.{jobs_rule, IsJobsIn};
+ghost use Rattle.gl_options.specs.bodies.Parts.{HasRule};
+ghost use Rattle.gl_options.specs.bodies.Searches.{Finds};
 
 use crate::building::{described, number_option, with_option};
 use crate::found::number_in;
@@ -12,8 +14,7 @@ use std::alloc::{AllocError, Global};
 /// The number of threads that read the trace. With `--stream` the text is read as it comes, by one thread, and this
 /// number doesn't count.
 pub(crate) fn jobs_option<'a>(alloc: Global) -> Arg<'a>
-    ensures rule { rule_of result ≡ jobs_rule }
-    ensures local { result.global ≡ false }
+    ensures { HasRule jobs_rule result }
 {
     number_option(
         alloc,
@@ -43,9 +44,7 @@ pub(crate) fn reading<'a>(
 
 /// The number that was read for the option, where it is in its range.
 pub(crate) fn jobs_in(matches: &ArgMatches<'_>) -> Option<u32>
-    ensures some { IfSome result (IsJobsIn (rows_of (found_of matches.now))) }
-    ensures none { result ≡ None → (jobs : ℕ)
-        → IsJobsIn (rows_of (found_of matches.now)) jobs → ⊥ }
+    ensures { Finds (IsJobsIn (rows_of (found_of matches.now))) result }
 {
     number_in(matches, "jobs", 0, 64)
 }

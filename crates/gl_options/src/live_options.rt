@@ -1,9 +1,8 @@
 //! What a session is run with, and how the words of the command line ask for it.
-ghost use Rattle.std.specs.Prelude.{◌≡◌, ◌<◌, ◌≤◌, ◌^◌, ℕ, false, None, codes, IfOk, IfSome};
-ghost use Rattle.clap.specs.Words.{app_of, found_of, rows_of, rule_of};
-ghost use Rattle.clap.specs.declared.builder.command.Command.TheViews.{out-Command as fields_of};
-ghost use Rattle.gl_options.specs.Options.{live, session_app, recorders_rule, shards_rule, ring_rule, stream_rule, threads_rule, IsCommand};
-ghost use Rattle.gl_options.specs.declared.options.Command.{Command};
+ghost use Rattle.std.specs.Prelude.{codes, option_map};
+ghost use Rattle.gl_options.specs.Options.{live, session_app, recorders_rule, shards_rule, ring_rule, stream_rule, threads_rule};
+ghost use Rattle.gl_options.specs.bodies.Parts.{HasRule, HasShape};
+ghost use Rattle.gl_options.specs.bodies.Searches.{IsAskedBy};
 ghost use Rattle.gl_options.specs.declared.options.Command.TheVariants.{Live};
 
 use crate::building::{flag_option, number_option, with_option};
@@ -45,8 +44,7 @@ pub struct LiveOptions {
 
 // The number of threads that record.
 fn recorders_option<'a>(alloc: Global) -> Arg<'a>
-    ensures rule { rule_of result ≡ recorders_rule }
-    ensures local { result.global ≡ false }
+    ensures { HasRule recorders_rule result }
 {
     number_option(
         alloc,
@@ -61,8 +59,7 @@ fn recorders_option<'a>(alloc: Global) -> Arg<'a>
 
 // The number of shards.
 fn shards_option<'a>(alloc: Global) -> Arg<'a>
-    ensures rule { rule_of result ≡ shards_rule }
-    ensures local { result.global ≡ false }
+    ensures { HasRule shards_rule result }
 {
     number_option(
         alloc,
@@ -77,8 +74,7 @@ fn shards_option<'a>(alloc: Global) -> Arg<'a>
 
 // The capacity of rings.
 fn ring_option<'a>(alloc: Global) -> Arg<'a>
-    ensures rule { rule_of result ≡ ring_rule }
-    ensures local { result.global ≡ false }
+    ensures { HasRule ring_rule result }
 {
     number_option(
         alloc,
@@ -93,8 +89,7 @@ fn ring_option<'a>(alloc: Global) -> Arg<'a>
 
 // Whether the trace is recorded as it is read.
 fn stream_option<'a>(alloc: Global) -> Arg<'a>
-    ensures rule { rule_of result ≡ stream_rule }
-    ensures local { result.global ≡ false }
+    ensures { HasRule stream_rule result }
 {
     flag_option(
         alloc,
@@ -105,8 +100,7 @@ fn stream_option<'a>(alloc: Global) -> Arg<'a>
 
 // The limit of threads.
 fn threads_option<'a>(alloc: Global) -> Arg<'a>
-    ensures rule { rule_of result ≡ threads_rule }
-    ensures local { result.global ≡ false }
+    ensures { HasRule threads_rule result }
 {
     number_option(
         alloc,
@@ -121,8 +115,7 @@ fn threads_option<'a>(alloc: Global) -> Arg<'a>
 
 // A command that reports by a session of these recorder threads, workers and rings.
 fn session_command<'a>(alloc: Global) -> Result<clap::Command<'a>, AllocError>
-    ensures shape { IfOk result (λ c. app_of c ≡ session_app) }
-    ensures local { IfOk result (λ c. (fields_of c).has_globals ≡ false) }
+    ensures { HasShape session_app result }
 {
     let command = report_command(alloc, "live");
     let command = with_option(command, recorders_option(alloc));
@@ -132,8 +125,7 @@ fn session_command<'a>(alloc: Global) -> Result<clap::Command<'a>, AllocError>
 
 /// The command that predicts by a session.
 pub(crate) fn live_command<'a>(alloc: Global) -> Result<clap::Command<'a>, AllocError>
-    ensures shape { IfOk result (λ c. app_of c ≡ live) }
-    ensures local { IfOk result (λ c. (fields_of c).has_globals ≡ false) }
+    ensures { HasShape live result }
 {
     let command = with_option(session_command(alloc), stream_option(alloc));
     reading(
@@ -146,10 +138,7 @@ pub(crate) fn live_command<'a>(alloc: Global) -> Result<clap::Command<'a>, Alloc
 
 /// What the session is run with that these values of the command's options ask for.
 pub(crate) fn live_in(options: &ArgMatches<'_>) -> Option<LiveOptions>
-    ensures some { IfSome result
-        (λ o. IsCommand (codes "live") (rows_of (found_of options.now)) (Live o)) }
-    ensures none { result ≡ None → (c : Command)
-        → IsCommand (codes "live") (rows_of (found_of options.now)) c → ⊥ }
+    ensures { IsAskedBy (codes "live") options.now (option_map Live result) }
 {
     let query = query_in(options)?;
     let recorders = number_in(options, "recorders", 1, 16)?;

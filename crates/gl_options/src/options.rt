@@ -1,10 +1,11 @@
 //! What the words of the command line ask for.
-ghost use Rattle.std.specs.Prelude.{◌≡◌, false, map, None, codes, IfOk, IfErr, IfSome};
+ghost use Rattle.std.specs.Prelude.{◌≡◌, map, codes, IfOk, IfErr};
 ghost use Rattle.clap.specs.declared.error.kind.ErrorKind.TheVariants.{InvalidValue};
-ghost use Rattle.clap.specs.Words.{app_of, found_of, kind_of, rows_of, subcommand_rows_of, with_subcommand};
-ghost use Rattle.clap.specs.declared.builder.command.Command.TheViews.{out-Command as fields_of};
+ghost use Rattle.clap.specs.Words.{app_of, kind_of, subcommand_rows_of, with_subcommand};
 ghost use Rattle.gl_options.specs.Options.{goodlock, program, predict, live, stats, replay, check};
-ghost use Rattle.gl_options.specs.Options.{Asks, IsCommand, IsEntered, IsUsageFor, IsUsageOf, NamesModes, jobs_of};
+ghost use Rattle.gl_options.specs.Options.{Asks, IsEntered, IsUsageFor, IsUsageOf, NamesModes, jobs_of};
+ghost use Rattle.gl_options.specs.bodies.Parts.{HasShape};
+ghost use Rattle.gl_options.specs.bodies.Searches.{Finds, IsAskedBy};
 
 use crate::building::with_command;
 use crate::form::Form;
@@ -78,8 +79,7 @@ impl From<AllocError> for Usage {
 
 // The command that predicts.
 fn predict_command<'a>(alloc: Global) -> Result<clap::Command<'a>, AllocError>
-    ensures shape { IfOk result (λ c. app_of c ≡ predict) }
-    ensures local { IfOk result (λ c. (fields_of c).has_globals ≡ false) }
+    ensures { HasShape predict result }
 {
     reading(
         alloc,
@@ -91,8 +91,7 @@ fn predict_command<'a>(alloc: Global) -> Result<clap::Command<'a>, AllocError>
 
 // The command that counts.
 fn stats_command<'a>(alloc: Global) -> Result<clap::Command<'a>, AllocError>
-    ensures shape { IfOk result (λ c. app_of c ≡ stats) }
-    ensures local { IfOk result (λ c. (fields_of c).has_globals ≡ false) }
+    ensures { HasShape stats result }
 {
     reading(
         alloc,
@@ -104,8 +103,7 @@ fn stats_command<'a>(alloc: Global) -> Result<clap::Command<'a>, AllocError>
 
 // The command that writes the trace.
 fn replay_command<'a>(alloc: Global) -> Result<clap::Command<'a>, AllocError>
-    ensures shape { IfOk result (λ c. app_of c ≡ replay) }
-    ensures local { IfOk result (λ c. (fields_of c).has_globals ≡ false) }
+    ensures { HasShape replay result }
 {
     reading(
         alloc,
@@ -117,8 +115,7 @@ fn replay_command<'a>(alloc: Global) -> Result<clap::Command<'a>, AllocError>
 
 // The command that checks a report.
 fn check_command<'a>(alloc: Global) -> Result<clap::Command<'a>, AllocError>
-    ensures shape { IfOk result (λ c. app_of c ≡ check) }
-    ensures local { IfOk result (λ c. (fields_of c).has_globals ≡ false) }
+    ensures { HasShape check result }
 {
     reading(
         alloc,
@@ -193,9 +190,7 @@ fn refused(alloc: Global) -> Usage
 
 // The command that these values of its options ask for.
 fn predict_in(options: &ArgMatches<'_>) -> Option<Command>
-    ensures some { IfSome result (IsCommand (codes "predict") (rows_of (found_of options.now))) }
-    ensures none { result ≡ None → (c : Command)
-        → IsCommand (codes "predict") (rows_of (found_of options.now)) c → ⊥ }
+    ensures { IsAskedBy (codes "predict") options.now result }
 {
     let query = query_in(options)?;
     let jobs = jobs_in(options)?;
@@ -208,9 +203,7 @@ fn predict_in(options: &ArgMatches<'_>) -> Option<Command>
 
 // The command that these values of its options ask for.
 fn stats_in(options: &ArgMatches<'_>) -> Option<Command>
-    ensures some { IfSome result (IsCommand (codes "stats") (rows_of (found_of options.now))) }
-    ensures none { result ≡ None → (c : Command)
-        → IsCommand (codes "stats") (rows_of (found_of options.now)) c → ⊥ }
+    ensures { IsAskedBy (codes "stats") options.now result }
 {
     let query = query_in(options)?;
     let jobs = jobs_in(options)?;
@@ -219,9 +212,7 @@ fn stats_in(options: &ArgMatches<'_>) -> Option<Command>
 
 // The command that these values of its options ask for.
 fn replay_in(options: &ArgMatches<'_>) -> Option<Command>
-    ensures some { IfSome result (IsCommand (codes "replay") (rows_of (found_of options.now))) }
-    ensures none { result ≡ None → (c : Command)
-        → IsCommand (codes "replay") (rows_of (found_of options.now)) c → ⊥ }
+    ensures { IsAskedBy (codes "replay") options.now result }
 {
     let jobs = jobs_in(options)?;
     Some(Command::Replay { jobs })
@@ -229,9 +220,7 @@ fn replay_in(options: &ArgMatches<'_>) -> Option<Command>
 
 // The command that these values of its options ask for.
 fn check_in(options: &ArgMatches<'_>) -> Option<Command>
-    ensures some { IfSome result (IsCommand (codes "check") (rows_of (found_of options.now))) }
-    ensures none { result ≡ None → (c : Command)
-        → IsCommand (codes "check") (rows_of (found_of options.now)) c → ⊥ }
+    ensures { IsAskedBy (codes "check") options.now result }
 {
     let jobs = jobs_in(options)?;
     Some(Command::Check { jobs })
@@ -239,10 +228,7 @@ fn check_in(options: &ArgMatches<'_>) -> Option<Command>
 
 // The command that was entered, where its options have values in their ranges.
 fn command_in(matches: &ArgMatches<'_>) -> Option<Command>
-    ensures some { IfSome result (IsEntered (subcommand_rows_of matches.now)) }
-    ensures none { result ≡ None → (c : Command)
-        → IsEntered (subcommand_rows_of matches.now) c
-        → ⊥ }
+    ensures { Finds (IsEntered (subcommand_rows_of matches.now)) result }
 {
     if let Some(options) = matches.subcommand_matches("predict") {
         return predict_in(options);

@@ -1,8 +1,6 @@
 //! The options of a query, and of a report: how the words of the command line ask which cycles are wanted, and in which form.
-ghost use Rattle.std.specs.Prelude.{◌≡◌, false, IfOk};
-ghost use Rattle.clap.specs.Words.{app_of, rule_of};
-ghost use Rattle.clap.specs.declared.builder.command.Command.TheViews.{out-Command as fields_of};
 ghost use Rattle.gl_options.specs.Options.{query_app, report_app, mode_rule, len_rule, max_rule, json_rule, findings_rule};
+ghost use Rattle.gl_options.specs.bodies.Parts.{HasRule, HasShape};
 
 use crate::building::{flag_option, number_option, with_option};
 use clap::Arg;
@@ -10,8 +8,7 @@ use std::alloc::{AllocError, Global};
 
 // Which cycles count.
 fn mode_option<'a>(alloc: Global) -> Arg<'a>
-    ensures rule { rule_of result ≡ mode_rule }
-    ensures local { result.global ≡ false }
+    ensures { HasRule mode_rule result }
 {
     Arg::new(alloc, "mode")
         .long("mode")
@@ -24,8 +21,7 @@ fn mode_option<'a>(alloc: Global) -> Arg<'a>
 
 // The greatest length of a cycle.
 fn len_option<'a>(alloc: Global) -> Arg<'a>
-    ensures rule { rule_of result ≡ len_rule }
-    ensures local { result.global ≡ false }
+    ensures { HasRule len_rule result }
 {
     number_option(
         alloc,
@@ -40,8 +36,7 @@ fn len_option<'a>(alloc: Global) -> Arg<'a>
 
 // The greatest number of cycles.
 fn max_option<'a>(alloc: Global) -> Arg<'a>
-    ensures rule { rule_of result ≡ max_rule }
-    ensures local { result.global ≡ false }
+    ensures { HasRule max_rule result }
 {
     number_option(
         alloc,
@@ -56,8 +51,7 @@ fn max_option<'a>(alloc: Global) -> Arg<'a>
 
 // The form of the report.
 fn json_option<'a>(alloc: Global) -> Arg<'a>
-    ensures rule { rule_of result ≡ json_rule }
-    ensures local { result.global ≡ false }
+    ensures { HasRule json_rule result }
 {
     flag_option(
         alloc,
@@ -68,8 +62,7 @@ fn json_option<'a>(alloc: Global) -> Arg<'a>
 
 // Whether findings are listed, in place of cycles.
 fn findings_option<'a>(alloc: Global) -> Arg<'a>
-    ensures rule { rule_of result ≡ findings_rule }
-    ensures local { result.global ≡ false }
+    ensures { HasRule findings_rule result }
 {
     flag_option(
         alloc,
@@ -83,8 +76,7 @@ pub(crate) fn query_command<'a>(
     alloc: Global,
     name: &'a str,
 ) -> Result<clap::Command<'a>, AllocError>
-    ensures shape { IfOk result (λ c. app_of c ≡ query_app name.entry.now) }
-    ensures local { IfOk result (λ c. (fields_of c).has_globals ≡ false) }
+    ensures { HasShape (query_app name.entry.now) result }
 {
     let command = Ok(clap::Command::new(alloc, name));
     let command = with_option(command, mode_option(alloc));
@@ -97,8 +89,7 @@ pub(crate) fn report_command<'a>(
     alloc: Global,
     name: &'a str,
 ) -> Result<clap::Command<'a>, AllocError>
-    ensures shape { IfOk result (λ c. app_of c ≡ report_app name.entry.now) }
-    ensures local { IfOk result (λ c. (fields_of c).has_globals ≡ false) }
+    ensures { HasShape (report_app name.entry.now) result }
 {
     let command = query_command(alloc, name);
     let command = with_option(command, json_option(alloc));

@@ -1,7 +1,7 @@
 -- The report of a trace that was read, or why there is none.
 use Rattle.std.specs.Prelude.{◌≡◌, ◌⊎◌, ℕ, Bool, false, true, List, Result, Ok, Err}
 use Rattle.std.specs.Io.KnownBytes.{Keeps}
-use Rattle.gl_event.specs.Bounds.{Bounds}
+use Rattle.gl_event.specs.Bounds.{Bounds, greatest}
 use Rattle.gl_event.specs.declared.events.Segment.{Segment}
 use Rattle.gl_segments.specs.Laws.{DecidesBefore}
 use Rattle.gl_segments.specs.Segments.{IsConsistent}
@@ -14,6 +14,7 @@ use Rattle.gl_live.specs.Streamed.{Becomes}
 use Rattle.gl_live.specs.declared.faults.StreamFault.{StreamFault}
 use Rattle.gl_options.specs.declared.live_options.LiveOptions.{LiveOptions}
 use Rattle.gl_std.specs.Streaming.{Stream}
+use Rattle.gl_std.specs.Trace.{trace_of}
 use Rattle.gl_std.specs.declared.faults.StdKind.{StdKind}
 use Rattle.gl_io.specs.Reads.{HasRead}
 use Rattle.gl_std.specs.declared.faults.LinesFault.{LinesFault}
@@ -22,7 +23,7 @@ use Rattle.gl_std.specs.declared.faults.ReadFault.{ReadFault}
 use Rattle.gl_std.specs.declared.faults.ReadFault.TheVariants.{Line}
 use Rattle.gl_std.specs.declared.trace.Trace.{Trace}
 use Rattle.gl_commands.specs.Answer.{Answer, IsAnswerUnder, IsLeastBeforeItself}
-use Rattle.gl_commands.specs.Answer.Answer.{Prints}
+use Rattle.gl_commands.specs.Answer.Answer.{Prints, Refusal}
 use Rattle.gl_io.specs.Uses.{SinkUse, SourceUse}
 use Rattle.gl_commands.specs.Ending.{HasEndedStreamed}
 use Rattle.gl_commands.specs.RefusalLines.{fault_line, inconsistent_line}
@@ -67,6 +68,29 @@ pub record IsReportOf (contents : Contents) (asked : Asked) (read : Result Trace
   pub consistent : IsConsistent trace.lists
   pub decides : DecidesBefore trace.lists before
   pub is_report : report ≡ report_with contents asked before (edges trace.lists)
+
+-- ---- what is answered to the texts that have this trace or first fault
+
+-- this is answered to each of them
+abbrev pub IsAnswerToEach : (List ℕ → Answer → Type 0) → Result Trace ReadFault → Answer → Type 0
+IsAnswerToEach IsAnswered read answer =
+    (text : List ℕ) → trace_of greatest text ≡ read → IsAnswered text answer
+
+-- what is printed is answered to each, or the line that refuses them; or memory was refused
+abbrev pub IsAnsweredBy : (List ℕ → Answer → Type 0)
+    → Result Trace ReadFault → Result Printed Ended → Type 0
+IsAnsweredBy IsAnswered read (Ok p) =
+    IsAnswerToEach IsAnswered read (Prints p.text.items p.outcome)
+IsAnsweredBy IsAnswered read (Err ended) =
+    IfRefused ended (λ line. IsAnswerToEach IsAnswered read (Refusal line))
+
+-- or the session isn't confirmed
+abbrev pub IsAnsweredInSession : (List ℕ → Answer → Type 0)
+    → Result Trace ReadFault → Result Printed Ended → Type 0
+IsAnsweredInSession IsAnswered read (Ok p) =
+    IsAnswerToEach IsAnswered read (Prints p.text.items p.outcome)
+IsAnsweredInSession IsAnswered read (Err ended) =
+    IfStopped ended (λ line. IsAnswerToEach IsAnswered read (Refusal line))
 
 -- ---- a session that records a text as it comes
 

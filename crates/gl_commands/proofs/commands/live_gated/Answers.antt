@@ -20,7 +20,7 @@ returns-then-options g c =
 pub returns-in-Ok : goal.returns-in-Ok
 returns-in-Ok g c =
     record {
-      read_first = λ _. ends_live (IsAnswer (session_prediction c.args.options.now)) _ _ c.in-Ok.read c.recorded.result _ c.end-in-Ok.result c.in-Ok.ensures.heard c.recorded.ensures.printed c.recorded.ensures.refused c.end-in-Ok.ensures;
+      read_first = λ _. ends_live (IsAnswer (session_prediction c.args.options.now)) _ _ c.in-Ok.read c.recorded.result _ c.end-in-Ok.result c.in-Ok.ensures.heard c.recorded.ensures c.end-in-Ok.ensures;
       as_it_comes = λ on. absurd (false≢true (sym c.if-options.false ∙ on));
     }
 

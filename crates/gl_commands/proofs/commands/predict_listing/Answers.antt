@@ -6,7 +6,7 @@ use Rattle.gl_commands.proofs.commands.predict_listing.Goals as goal
 
 pub returns-in-Ok : goal.returns-in-Ok
 returns-in-Ok g c =
-    ends (IsAnswer (prediction c.args.listing c.args.query.now c.args.form)) _ _ c.in-Ok.read c.predicted.result _ c.end.result c.in-Ok.ensures.heard c.predicted.ensures.printed c.predicted.ensures.refused c.end.ensures
+    ends (IsAnswer (prediction c.args.listing c.args.query.now c.args.form)) _ _ c.in-Ok.read c.predicted.result _ c.end.result c.in-Ok.ensures.heard c.predicted.ensures c.end.ensures
 
 -- nothing was written
 pub returns-in-Err : goal.returns-in-Err

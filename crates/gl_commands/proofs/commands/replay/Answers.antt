@@ -6,7 +6,7 @@ use Rattle.gl_commands.proofs.commands.replay.Goals as goal
 
 pub returns-in-Ok : goal.returns-in-Ok
 returns-in-Ok g c =
-    ends (IsPlainAnswer replay) _ _ c.in-Ok.read c.replayed.result _ c.end.result c.in-Ok.ensures.heard c.replayed.ensures.printed c.replayed.ensures.refused c.end.ensures
+    ends (IsPlainAnswer replay) _ _ c.in-Ok.read c.replayed.result _ c.end.result c.in-Ok.ensures.heard c.replayed.ensures c.end.ensures
 
 -- nothing was written
 pub returns-in-Err : goal.returns-in-Err

@@ -6,7 +6,7 @@ use Rattle.gl_commands.proofs.commands.stats.Goals as goal
 
 pub returns-in-Ok : goal.returns-in-Ok
 returns-in-Ok g c =
-    ends (IsAnswer (counts c.args.query.now)) _ _ c.in-Ok.read c.counted.result _ c.end.result c.in-Ok.ensures.heard c.counted.ensures.printed c.counted.ensures.refused c.end.ensures
+    ends (IsAnswer (counts c.args.query.now)) _ _ c.in-Ok.read c.counted.result _ c.end.result c.in-Ok.ensures.heard c.counted.ensures c.end.ensures
 
 -- nothing was written
 pub returns-in-Err : goal.returns-in-Err

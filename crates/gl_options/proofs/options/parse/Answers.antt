@@ -20,7 +20,7 @@ returns-in-Some-clause-asks g c =
     let entered = (c.in-Ok.ensures.matches (ap is_simple line ∙ is_simple_line)).1 ∙ ap (λ (a : App). subcommand_of a words) line in
     record {
       fits = ap (λ (a : App). fault_of a words) (sym line) ∙ fits;
-      enters = subst (λ o. IsEntered o c.in-Some.command) entered c.in-Some.ensures.some;
+      enters = subst (λ o. IsEntered o c.in-Some.command) entered c.in-Some.ensures;
     }
 
 pub returns-clause-usage : goal.returns-clause-usage
@@ -30,4 +30,4 @@ returns-clause-usage g c =
     let fits : fault_of (app_of c.in_ok-command_line.field-0) words ≡ [] = c.in-Ok.ensures.kinds (ap is_simple_and_free line ∙ is_read) in
     let entered = (c.in-Ok.ensures.matches (ap is_simple line ∙ is_simple_line)).1 ∙ ap (λ (a : App). subcommand_of a words) line in
     refused_value words c.refused.result c.refused.ensures.usage
-    (λ command asks. c.in-None.ensures.none refl command (subst (λ o. IsEntered o command) (sym entered) asks.enters)) (ap (λ (a : App). fault_of a words) (sym line) ∙ fits)
+    (λ command asks. c.in-None.ensures command (subst (λ o. IsEntered o command) (sym entered) asks.enters)) (ap (λ (a : App). fault_of a words) (sym line) ∙ fits)

@@ -1,12 +1,11 @@
-use Rattle.std.proofs.Common.{refl}
 use Rattle.clap.specs.Words.{found_of, rows_of}
 use Rattle.gl_options.proofs.Reading.{no_prediction}
 use Rattle.gl_options.proofs.options.predict_in.Goals as goal
 
-pub returns-in_err-query-clause-none : goal.returns-in_err-query-clause-none
-returns-in_err-query-clause-none c = λ _.
-    no_prediction (rows_of (found_of c.args.options.now)) (λ query jobs asks told. c.in_err-query.ensures.none refl query asks)
+pub returns-in_err-query : goal.returns-in_err-query
+returns-in_err-query c =
+    rw c.from_residual.ensures (no_prediction (rows_of (found_of c.args.options.now)) (λ query jobs asks told. c.in_err-query.ensures query asks))
 
-pub returns-in_err-jobs-clause-none : goal.returns-in_err-jobs-clause-none
-returns-in_err-jobs-clause-none c = λ _.
-    no_prediction (rows_of (found_of c.args.options.now)) (λ query jobs asks told. c.in_err-jobs.ensures.none refl jobs told)
+pub returns-in_err-jobs : goal.returns-in_err-jobs
+returns-in_err-jobs c =
+    rw c.from_residual-in_err-jobs.ensures (no_prediction (rows_of (found_of c.args.options.now)) (λ query jobs asks told. c.in_err-jobs.ensures jobs told))
