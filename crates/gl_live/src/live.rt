@@ -185,7 +185,7 @@ pub fn live_report_with<R: Threads + Wait + Sync, G: Gate + Sync>(
     let Ok(tables) = Vec::with_capacity(alloc, options.shards as usize) else {
         return Err(LiveFault::Memory);
     };
-    match run_session(rt, alloc, lists, gate, session, workloads) {
+    match run_session(rt, alloc, lists, options, gate, session, workloads) {
         Ok(ran) => conclude(rt, alloc, ran, tables, contents, query),
         Err(fault) => Err(fault),
     }

@@ -103,7 +103,7 @@ pub fn stream_report_with<R: Threads + Wait + Sync, S: Source, G: Gate + Sync>(
     let Ok(tables) = Vec::with_capacity(alloc, options.shards as usize) else {
         return (Err(StreamFault::Session(LiveFault::Memory)), items);
     };
-    let (ran, items) = read_session(rt, alloc, gate, session, recorders, items, input);
+    let (ran, items) = read_session(rt, alloc, options, gate, session, recorders, items, input);
     (
         report_streamed(rt, alloc, ran, tables, contents, query),
         items,
