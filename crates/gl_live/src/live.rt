@@ -3,16 +3,15 @@ ghost use Rattle.std.specs.Prelude.{◌≡◌, ◌≤◌, ◌+◌, [], List, len
 ghost use Rattle.std.specs.List.{All};
 ghost use Rattle.std.specs.Vec.{vec_len, vec_capacity};
 ghost use Rattle.gl_event.specs.declared.events.Event.{Event};
-ghost use Rattle.gl_event.specs.declared.limits.TheConstants.{MAX_RING};
 ghost use Rattle.gl_segments.specs.Orders.{lists_of};
 ghost use Rattle.gl_cycles.specs.Reports.{IsGoodlockReport};
 ghost use Rattle.gl_edges.specs.Edges.{edges, once};
-ghost use Rattle.gl_shards.specs.declared.shard.TheConstants.{MAX_SHARDS};
 ghost use Rattle.gl_shards.specs.Feeds.{AllSent};
 ghost use Rattle.gl_engine.specs.Recording.{Closed};
 ghost use Rattle.gl_engine.specs.Settling.{IsSettled, IsSettledFrom};
 ghost use Rattle.gl_findings.specs.Reports.{IsReportWith};
 ghost use Rattle.gl_live.specs.Faults.{IsLiveFault};
+ghost use Rattle.gl_live.specs.Options.{CanRunOverLists};
 ghost use Rattle.gl_live.specs.bodies.Runs.{HasRun};
 ghost use Rattle.gl_live.specs.bodies.Rosters.{gathered_from, AreReceipts, IsReceiptOf};
 
@@ -167,11 +166,7 @@ pub fn live_report_with<R: Threads + Wait + Sync, G: Gate + Sync>(
     gate: &G,
 ) -> Result<Report, LiveFault>
     requires few { length lists.now ≤ 1024 }
-    requires some_recorder { 1 ≤ options.now.recorders }
-    requires some_shard { 1 ≤ options.now.shards }
-    requires shards_fit { options.now.shards ≤ MAX_SHARDS }
-    requires some_ring { 1 ≤ options.now.ring }
-    requires ring_fits { options.now.ring ≤ MAX_RING }
+    requires options { CanRunOverLists options.now }
     ensures report { IfOk result
         (λ report. IsReportWith contents query.now (edges (lists_of lists.now))
         (lists_of lists.now) report) }
@@ -190,7 +185,7 @@ pub fn live_report_with<R: Threads + Wait + Sync, G: Gate + Sync>(
     let Ok(tables) = Vec::with_capacity(alloc, options.shards as usize) else {
         return Err(LiveFault::Memory);
     };
-    match run_session(rt, alloc, lists, gate, session, workloads) {
+    match run_session(rt, alloc, lists, options, gate, session, workloads) {
         Ok(ran) => conclude(rt, alloc, ran, tables, contents, query),
         Err(fault) => Err(fault),
     }
@@ -211,11 +206,7 @@ pub fn live_report<R: Threads + Wait + Sync, G: Gate + Sync>(
     gate: &G,
 ) -> Result<Report, LiveFault>
     requires few { length lists.now ≤ 1024 }
-    requires some_recorder { 1 ≤ options.now.recorders }
-    requires some_shard { 1 ≤ options.now.shards }
-    requires shards_fit { options.now.shards ≤ MAX_SHARDS }
-    requires some_ring { 1 ≤ options.now.ring }
-    requires ring_fits { options.now.ring ≤ MAX_RING }
+    requires options { CanRunOverLists options.now }
     ensures report { IfOk result
         (λ report. IsGoodlockReport query.now (lists_of lists.now) report) }
     ensures fault { IfErr result (IsLiveFault (lists_of lists.now)) }

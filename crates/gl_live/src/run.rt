@@ -8,13 +8,13 @@ ghost use Rattle.gl_engine.specs.Collecting.{Collecting};
 ghost use Rattle.gl_live.specs.Faults.{IsLiveFault};
 ghost use Rattle.gl_shards.specs.declared.shard.TheConstants.{MAX_SHARDS};
 ghost use Rattle.gl_live.specs.bodies.Workloads.{IsWorkloadOf};
-ghost use Rattle.gl_live.specs.bodies.Ready.{IsReady};
+ghost use Rattle.gl_live.specs.bodies.Ready.{HasSizes, IsReady};
 ghost use Rattle.gl_live.specs.bodies.Runs.{HasRecordedLists, HasRun};
 ghost use Rattle.gl_live.specs.bodies.Rosters.{gathered_from, roster_of, IsReceiptOf};
 
 use crate::faults::LiveFault;
 use crate::recording::{Recording, Workload, join_recorders, start_recorders};
-use crate::session::Session;
+use crate::session::{Session, SessionOptions};
 use crate::start_gate::{StartGate, ThreadCounts};
 use crate::working::{Working, join_workers, start_workers};
 use gl_engine::{Collector, Gathered, Receipt};
@@ -182,18 +182,21 @@ fn run_threads<'s, E, R: Threads + Wait + Sync, G: Gate + Sync>(
     alloc: Global,
     start: &'s StartGate,
     lists: &'s [Vec<Event>],
+    options: &SessionOptions,
     gate: &'s G,
     session: Session,
     workloads: Vec<Workload>,
 ) -> Result<Ran, LiveFault>
     requires ready { IsReady (length lists.now) session }
+    requires sizes { HasSizes (length lists.now) options.now.shards options.now.ring session }
+    requires recorders { length workloads.items ≡ options.now.recorders }
     requires workloads { All (IsWorkloadOf (roster_of session.collector)) workloads.items }
     ensures { HasRecordedLists session (length lists.now) (lists_of lists.now) result }
 {
-    let Ok(workers) = Vec::with_capacity(alloc, session.inlets.len()) else {
+    let Ok(workers) = Vec::with_capacity(alloc, options.shards as usize) else {
         return Err(LiveFault::Memory);
     };
-    let Ok(recorders) = Vec::with_capacity(alloc, workloads.len()) else {
+    let Ok(recorders) = Vec::with_capacity(alloc, options.recorders as usize) else {
         return Err(LiveFault::Memory);
     };
     run_with_handles(
@@ -202,18 +205,21 @@ fn run_threads<'s, E, R: Threads + Wait + Sync, G: Gate + Sync>(
 }
 
 /// Runs the session: each recorder thread records the lists of its lanes, each worker fills a table, and
-/// the collector collects in the calling thread.
+/// the collector collects in the calling thread. It has the sizes that the options ask for.
 ///
 /// It returns once all threads have ended.
 pub fn run_session<R: Threads + Wait + Sync, G: Gate + Sync>(
     rt: &R,
     alloc: Global,
     lists: &[Vec<Event>],
+    options: &SessionOptions,
     gate: &G,
     session: Session,
     workloads: Vec<Workload>,
 ) -> Result<Ran, LiveFault>
     requires ready { IsReady (length lists.now) session }
+    requires sizes { HasSizes (length lists.now) options.now.shards options.now.ring session }
+    requires recorders { length workloads.items ≡ options.now.recorders }
     requires workloads { All (IsWorkloadOf (roster_of session.collector)) workloads.items }
     ensures { HasRecordedLists session (length lists.now) (lists_of lists.now) result }
 {
@@ -224,9 +230,16 @@ pub fn run_session<R: Threads + Wait + Sync, G: Gate + Sync>(
         rt,
         move |scope| -> Result<Ran, LiveFault>
             requires ready { IsReady (length lists.now) session }
+            requires sizes { HasSizes (length lists.now) options.now.shards options.now.ring
+                session }
+            requires recorders { length workloads.items ≡ options.now.recorders }
             requires workloads { All (IsWorkloadOf (roster_of session.collector)) workloads.items }
             ensures { HasRecordedLists session (length lists.entry.now)
                 (lists_of lists.entry.now) result }
-        { run_threads(scope, rt, alloc, start, lists, gate, session, workloads) },
+        {
+            run_threads(
+                scope, rt, alloc, start, lists, options, gate, session, workloads,
+            )
+        },
     )
 }

@@ -1,12 +1,11 @@
 //! A session that is ready to run: recorders, collector and feeds, and room for what it leaves.
 ghost use Rattle.std.specs.Prelude.{◌≡◌, ◌≤◌, ◌+◌, [], map, length, IfOk, OnOk};
 ghost use Rattle.std.specs.List.{All};
-ghost use Rattle.gl_event.specs.Bounds.{of_session};
 ghost use Rattle.gl_event.specs.declared.limits.TheConstants.{MAX_THREADS, MAX_RING};
 ghost use Rattle.gl_shards.specs.declared.shard.TheConstants.{MAX_SHARDS};
 ghost use Rattle.gl_live.specs.bodies.Workloads.{AreDealt, IsWorkloadOf};
 ghost use Rattle.gl_live.specs.bodies.Rosters.{Roster, roster_of, IsRecorderOf};
-ghost use Rattle.gl_live.specs.bodies.Ready.{IsReady};
+ghost use Rattle.gl_live.specs.bodies.Ready.{HasSizes, IsReady};
 ghost use Rattle.gl_live.specs.bodies.Streams.{AreRecorded};
 
 use crate::recording::Workload;
@@ -168,10 +167,7 @@ pub fn prepare(
     ensures unused { IfOk result
         (λ opened. AreRecorded (roster_of opened.1.collector) [] opened.0.items) }
     ensures threads { IfOk result (λ opened. length opened.0.items ≡ threads) }
-    ensures shards { IfOk result (λ opened. length opened.1.outlets.items ≡ shards) }
-    ensures lanes { IfOk result (λ opened. opened.1.collector.limits ≡ of_session threads ring) }
-    ensures feeds { IfOk result
-        (λ opened. All (λ o. o.capacity ≡ ring) opened.1.outlets.items) }
+    ensures sizes { IfOk result (λ opened. HasSizes threads shards ring opened.1) }
 {
     let receipts = Vec::with_capacity(alloc, threads as usize)?;
     let served = Vec::with_capacity(alloc, shards as usize)?;

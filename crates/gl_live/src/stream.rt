@@ -1,14 +1,13 @@
 //! The report of a text by a session that records it as it is read.
-ghost use Rattle.std.specs.Prelude.{◌≡◌, ◌≤◌, ℕ, [], IfOk, OnOk};
+ghost use Rattle.std.specs.Prelude.{◌≡◌, ℕ, [], IfOk, OnOk};
 ghost use Rattle.std.specs.Vec.{vec_len, vec_capacity};
 ghost use Rattle.gl_event.specs.Bounds.{Bounds};
-ghost use Rattle.gl_event.specs.declared.limits.TheConstants.{MAX_THREADS, MAX_RING};
 ghost use Rattle.gl_findings.specs.declared.listing.Contents.TheVariants.{CyclesAndTrim};
 ghost use Rattle.gl_io.specs.Positions.{Position};
 ghost use Rattle.gl_io.specs.Uses.{SourceUse, used};
-ghost use Rattle.gl_shards.specs.declared.shard.TheConstants.{MAX_SHARDS};
 ghost use Rattle.gl_std.specs.Streaming.{CanBeAsked, HasTold, IsDone};
 ghost use Rattle.gl_std.specs.Trace.{nothing};
+ghost use Rattle.gl_live.specs.Options.{CanRunOverText};
 ghost use Rattle.gl_live.specs.Streamed.{Becomes, FailsInTime, IsUnread};
 ghost use Rattle.gl_live.specs.bodies.Runs.{HasRun};
 ghost use Rattle.gl_live.specs.bodies.Rosters.{gathered_from, AreReceipts};
@@ -87,12 +86,7 @@ pub fn stream_report_with<R: Threads + Wait + Sync, S: Source, G: Gate + Sync>(
     requires usable { CanBeAsked items (S.failed input.old) }
     requires unread { IsUnread options.now.threads (S.position input.old)
         (S.failed input.old) items }
-    requires some_thread { 1 ≤ options.now.threads }
-    requires threads_fit { options.now.threads ≤ MAX_THREADS }
-    requires some_shard { 1 ≤ options.now.shards }
-    requires shards_fit { options.now.shards ≤ MAX_SHARDS }
-    requires some_ring { 1 ≤ options.now.ring }
-    requires ring_fits { options.now.ring ≤ MAX_RING }
+    requires options { CanRunOverText options.now }
     ensures becomes { (limits : Bounds) (turns : ℕ) (start : Position)
         → limits.threads ≡ options.now.threads
         → HasTold limits turns
@@ -109,7 +103,7 @@ pub fn stream_report_with<R: Threads + Wait + Sync, S: Source, G: Gate + Sync>(
     let Ok(tables) = Vec::with_capacity(alloc, options.shards as usize) else {
         return (Err(StreamFault::Session(LiveFault::Memory)), items);
     };
-    let (ran, items) = read_session(rt, alloc, gate, session, recorders, items, input);
+    let (ran, items) = read_session(rt, alloc, options, gate, session, recorders, items, input);
     (
         report_streamed(rt, alloc, ran, tables, contents, query),
         items,
@@ -134,12 +128,7 @@ pub fn stream_report<R: Threads + Wait + Sync, S: Source, G: Gate + Sync>(
     requires usable { CanBeAsked items (S.failed input.old) }
     requires unread { IsUnread options.now.threads (S.position input.old)
         (S.failed input.old) items }
-    requires some_thread { 1 ≤ options.now.threads }
-    requires threads_fit { options.now.threads ≤ MAX_THREADS }
-    requires some_shard { 1 ≤ options.now.shards }
-    requires shards_fit { options.now.shards ≤ MAX_SHARDS }
-    requires some_ring { 1 ≤ options.now.ring }
-    requires ring_fits { options.now.ring ≤ MAX_RING }
+    requires options { CanRunOverText options.now }
     ensures becomes { (limits : Bounds) (turns : ℕ) (start : Position)
         → limits.threads ≡ options.now.threads
         → HasTold limits turns

@@ -8,6 +8,7 @@ ghost use Rattle.gl_std.specs.Listed.{listed};
 ghost use Rattle.gl_std.specs.Names.{NameLists};
 ghost use Rattle.gl_std.specs.Streaming.{with_item, CanBeAsked, IsDone};
 ghost use Rattle.gl_std.specs.declared.trace.Trace.{Trace};
+ghost use Rattle.gl_live.specs.bodies.Ready.{HasSizes};
 ghost use Rattle.gl_live.specs.bodies.Rosters.{Roster, IsReceiptOf};
 ghost use Rattle.gl_live.specs.bodies.Streams.{AreRecorded, CanBeTaken, HasGathered, HasRecordedText, HasTaken, IsAtStart, IsOfThreads, IsRecording, KeepUp, MayTake, StopsAfter};
 
@@ -282,6 +283,7 @@ fn record_text<'s, E, R: Threads + Wait + Sync, S: Source, G: Gate + Sync>(
     scope: &'s Scope<'s, E>,
     rt: &'s R,
     alloc: Global,
+    options: &StreamOptions,
     gate: &'s G,
     session: Session,
     recorders: Vec<Recorder>,
@@ -290,11 +292,12 @@ fn record_text<'s, E, R: Threads + Wait + Sync, S: Source, G: Gate + Sync>(
 ) -> Result<Ran, StreamFault>
     requires start { IsAtStart session recorders.items (S.position input.old)
         (S.failed input.old) items.old }
+    requires sizes { HasSizes options.now.threads options.now.shards options.now.ring session }
     ensures { HasRecordedText session (length recorders.items) (S.position input.old)
         (S.failed input.old) items.old (S.position input.new) (S.failed input.new) items.new
         result }
 {
-    let Ok(workers) = Vec::with_capacity(alloc, session.inlets.len()) else {
+    let Ok(workers) = Vec::with_capacity(alloc, options.shards as usize) else {
         return Err(StreamFault::Session(LiveFault::Memory));
     };
     record_and_collect(
@@ -307,6 +310,7 @@ fn lend_text<'s, 'x, E, R: Threads + Wait + Sync, S: Source, G: Gate + Sync>(
     scope: &'s Scope<'s, E>,
     rt: &'s R,
     alloc: Global,
+    options: &StreamOptions,
     gate: &'s G,
     session: Session,
     recorders: Vec<Recorder>,
@@ -315,6 +319,7 @@ fn lend_text<'s, 'x, E, R: Threads + Wait + Sync, S: Source, G: Gate + Sync>(
 ) -> (Result<Ran, StreamFault>, Items, &'x mut S)
     requires start { IsAtStart session recorders.items (S.position input.old)
         (S.failed input.old) items }
+    requires sizes { HasSizes options.now.threads options.now.shards options.now.ring session }
     ensures same { result.2.ghost_name ≡ input.entry.ghost_name }
     ensures text { HasRecordedText session (length recorders.items) (S.position input.old)
         (S.failed input.old) items (S.position result.2.now) (S.failed result.2.now) result.1
@@ -322,18 +327,20 @@ fn lend_text<'s, 'x, E, R: Threads + Wait + Sync, S: Source, G: Gate + Sync>(
 {
     let mut items = items;
     let ran = record_text(
-        scope, rt, alloc, gate, session, recorders, &mut items, input,
+        scope, rt, alloc, options, gate, session, recorders, &mut items, input,
     );
     (ran, items, input)
 }
 
 /// Runs the session over the text that the source gives: the calling thread reads and records, each
-/// worker fills a table, and the collector collects in a thread of its own.
+/// worker fills a table, and the collector collects in a thread of its own. It has the sizes that the options ask
+/// for.
 ///
 /// It returns once all threads have ended.
 pub fn read_session<R: Threads + Wait + Sync, S: Source, G: Gate + Sync>(
     rt: &R,
     alloc: Global,
+    options: &StreamOptions,
     gate: &G,
     session: Session,
     recorders: Vec<Recorder>,
@@ -342,6 +349,7 @@ pub fn read_session<R: Threads + Wait + Sync, S: Source, G: Gate + Sync>(
 ) -> (Result<Ran, StreamFault>, Items)
     requires start { IsAtStart session recorders.items (S.position input.old)
         (S.failed input.old) items }
+    requires sizes { HasSizes options.now.threads options.now.shards options.now.ring session }
     ensures { HasRecordedText session (length recorders.items) (S.position input.old)
         (S.failed input.old) items (S.position input.new) (S.failed input.new) result.1
         result.0 }
@@ -352,11 +360,17 @@ pub fn read_session<R: Threads + Wait + Sync, S: Source, G: Gate + Sync>(
         move |scope| -> (Result<Ran, StreamFault>, Items, &mut S)
             requires start { IsAtStart session recorders.items (S.position input.now)
                 (S.failed input.now) items }
+            requires sizes { HasSizes options.now.threads options.now.shards options.now.ring
+                session }
             ensures same { result.2.ghost_name ≡ input.entry.ghost_name }
             ensures text { HasRecordedText session (length recorders.items)
                 (S.position input.entry.now) (S.failed input.entry.now) items
                 (S.position result.2.now) (S.failed result.2.now) result.1 result.0 }
-        { lend_text(scope, rt, alloc, gate, session, recorders, items, input) },
+        {
+            lend_text(
+                scope, rt, alloc, options, gate, session, recorders, items, input,
+            )
+        },
     );
     (ran, items)
 }

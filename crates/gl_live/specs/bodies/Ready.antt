@@ -2,6 +2,7 @@
 use Rattle.std.specs.Prelude.{◌≡◌, ℕ, ◌+◌, ◌≤◌, [], length, map}
 use Rattle.std.specs.List.{All}
 use Rattle.std.specs.Vec.{vec_len, vec_capacity}
+use Rattle.gl_event.specs.Bounds.{of_session}
 use Rattle.gl_event.specs.declared.limits.TheConstants.{MAX_EVENTS}
 use Rattle.gl_shards.specs.declared.shard.TheConstants.{MAX_SHARDS}
 use Rattle.gl_live.specs.declared.session.Session.{Session}
@@ -19,3 +20,9 @@ pub record IsReady (threads : ℕ) (s : Session) : Type 0 where
   pub room : vec_len s.receipts + threads ≤ vec_capacity s.receipts
   pub none_served : s.served.items ≡ []
   pub served_room : vec_len s.served + length s.inlets.items ≤ vec_capacity s.served
+
+-- there are lanes of so many threads, and feeds of so many workers, each with this capacity
+pub record HasSizes (threads workers capacity : ℕ) (s : Session) : Type 0 where
+  pub lanes : s.collector.limits ≡ of_session threads capacity
+  pub shards : length s.outlets.items ≡ workers
+  pub feeds : All (λ o. o.capacity ≡ capacity) s.outlets.items

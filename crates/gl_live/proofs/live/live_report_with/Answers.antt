@@ -24,3 +24,7 @@ pub run_session-requires-clause-workloads : goal.run_session-requires-clause-wor
 run_session-requires-clause-workloads g c κs within =
     let roster = roster_of c.in-Ok.session.collector in
     c.in-Ok-workloads.ensures.ours roster (all_unused roster c.in-Ok.recorders.items c.in-Ok.ensures.unused)
+
+pub run_session-requires-clause-recorders : goal.run_session-requires-clause-recorders
+run_session-requires-clause-recorders g c κs within =
+    sym (length-map c.in-Ok-workloads.workloads.items (λ w. w.recorders.items)) ∙ c.in-Ok-workloads.ensures.dealt.as_many

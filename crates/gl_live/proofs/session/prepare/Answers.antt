@@ -17,5 +17,9 @@ returns-clause-unused c = opened_unused _ _ c.in_ok-recorders.recorders.items c.
 pub returns-clause-threads : goal.returns-clause-threads
 returns-clause-threads c = c.in_ok-recorders.ensures.count ∙ ap (λ (b : Bounds). b.threads) c.of_session-limits.ensures
 
-pub returns-clause-lanes : goal.returns-clause-lanes
-returns-clause-lanes c = ap (λ (y : Collecting). y.limits) c.in_ok-recorders.ensures.collects ∙ c.of_session-limits.ensures
+pub returns-clause-sizes : goal.returns-clause-sizes
+returns-clause-sizes c = record {
+  lanes = ap (λ (y : Collecting). y.limits) c.in_ok-recorders.ensures.collects ∙ c.of_session-limits.ensures;
+  shards = c.in_ok-outlets.ensures.count;
+  feeds = c.in_ok-outlets.ensures.room;
+}
