@@ -32,7 +32,10 @@ pub record IsGiving (text old : List ℕ) (was answer : ℕ) (new : List ℕ) (t
   pub same : (answer ≡ OK → ⊥) → (new ≡ old) × (told ≡ was)
 
 -- the text of what the two handles are of is given; and where one is of nothing, nothing is written
-abbrev pub IsGivingOf : {X Y : Type 0} → (X → Y → List ℕ) → Option X → Option Y → List ℕ → ℕ → ℕ → List ℕ → ℕ → Type 0
-IsGivingOf text_of (Some x) (Some y) old was answer new told = IsGiving (text_of x y) old was answer new told
+abbrev pub IsGivingOf : {X Y : Type 0} → (X → Y → List ℕ) → Option X → Option Y → List ℕ → ℕ → ℕ
+    → List ℕ → ℕ → Type 0
+IsGivingOf text_of (Some x) (Some y) old was answer new told =
+    IsGiving (text_of x y) old was answer new told
 IsGivingOf text_of None y old was answer new told = (answer ≡ MISUSE) × (new ≡ old) × (told ≡ was)
-IsGivingOf text_of (Some x) None old was answer new told = (answer ≡ MISUSE) × (new ≡ old) × (told ≡ was)
+IsGivingOf text_of (Some x) None old was answer new told =
+    (answer ≡ MISUSE) × (new ≡ old) × (told ≡ was)

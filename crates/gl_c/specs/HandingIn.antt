@@ -18,11 +18,13 @@ runs Gone = false
 
 -- the session with these receipts, and all else as it was
 abbrev pub HasReceipts : SessionState → List Closed → SessionState → Type 0
-HasReceipts old receipts new = (new ≡ record old { receipts = new.receipts }) × (new.receipts.items ≡ receipts)
+HasReceipts old receipts new =
+    (new ≡ record old { receipts = new.receipts }) × (new.receipts.items ≡ receipts)
 
 -- the receipt is of the session, and the first of its thread
 abbrev pub is_wanted : SessionState → Closed → Bool
-is_wanted old receipt = (receipt.session == old.number) && not (has_receipt old.receipts.items receipt.thread)
+is_wanted old receipt =
+    (receipt.session == old.number) && not (has_receipt old.receipts.items receipt.thread)
 
 -- what stands against taking back what a lane is of: it isn't closed, or its receipt isn't one that the session waits for
 abbrev pub state_refusal : SessionState → LaneState → Option ℕ
@@ -41,7 +43,9 @@ hand_in_refusal old was = if runs old.stage then lane_refusal old was else Some 
 
 -- the lane was closed, its receipt is the first of its thread, and the session has it after the others
 abbrev pub IsTaken : SessionState → LaneState → SessionState → Type 0
-IsTaken old (lane.Closed receipt) new = (receipt.session ≡ old.number) × (has_receipt old.receipts.items receipt.thread ≡ false) × HasReceipts old (old.receipts.items ++ receipt ∷ []) new
+IsTaken old (lane.Closed receipt) new =
+    (receipt.session ≡ old.number) × (has_receipt old.receipts.items receipt.thread ≡ false)
+    × HasReceipts old (old.receipts.items ++ receipt ∷ []) new
 IsTaken old (lane.Recording recorder) new = ⊥
 IsTaken old lane.Lost new = ⊥
 
@@ -51,7 +55,8 @@ IsTakenLane old (Some state) new = IsTaken old state new
 IsTakenLane old None new = ⊥
 
 -- the lane is taken back, and its handle is of nothing; or nothing changes
-pub record IsHandIn (old : SessionState) (was : Option LaneState) (answer : ℕ) (new : SessionState) (now : Option LaneState) : Type 0 where
+pub record IsHandIn (old : SessionState) (was : Option LaneState) (answer : ℕ) (new : SessionState)
+    (now : Option LaneState) : Type 0 where
   pub answers : IsAnswer (hand_in_refusal old was) answer
   pub done : answer ≡ OK → (now ≡ None) × IsTakenLane old was new
   pub same : (answer ≡ OK → ⊥) → HasReceipts old old.receipts.items new × (now ≡ was)

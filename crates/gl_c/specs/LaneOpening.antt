@@ -9,11 +9,14 @@ use Rattle.gl_c.specs.declared.session_state.SessionState.{SessionState}
 
 -- the session with these recorders, and all else as it was
 abbrev pub HasRecorders : SessionState → List Recording → SessionState → Type 0
-HasRecorders old recorders new = (new ≡ record old { recorders = new.recorders }) × (new.recorders.items ≡ recorders)
+HasRecorders old recorders new =
+    (new ≡ record old { recorders = new.recorders }) × (new.recorders.items ≡ recorders)
 
 -- the lane has the recorder that is the next one not given out yet, which the session has no more
 abbrev pub IsGivenOut : SessionState → LaneState → ℕ → SessionState → Type 0
-IsGivenOut old (lane.Recording recorder) told new = (old.recorders.items ≡ new.recorders.items ++ recorder ∷ []) × (told ≡ recorder.thread) × (new ≡ record old { recorders = new.recorders })
+IsGivenOut old (lane.Recording recorder) told new =
+    (old.recorders.items ≡ new.recorders.items ++ recorder ∷ []) × (told ≡ recorder.thread)
+    × (new ≡ record old { recorders = new.recorders })
 IsGivenOut old (lane.Closed receipt) told new = ⊥
 IsGivenOut old lane.Lost told new = ⊥
 
@@ -32,7 +35,9 @@ lane_open_refusal old (Some state) = Some MISUSE
 lane_open_refusal old None = if length old.recorders.items == 0 then Some NO_LANE else None
 
 -- a lane is given out to a handle that was of nothing; or nothing changes
-pub record IsLaneOpen (old : SessionState) (was : Option LaneState) (thread answer told : ℕ) (new : SessionState) (now : Option LaneState) : Type 0 where
+pub record IsLaneOpen (old : SessionState) (was : Option LaneState) (thread answer told : ℕ)
+    (new : SessionState) (now : Option LaneState) : Type 0 where
   pub answers : IsAnswer (lane_open_refusal old was) answer
   pub done : answer ≡ OK → (was ≡ None) × IsGivenLane old now told new
-  pub same : (answer ≡ OK → ⊥) → HasRecorders old old.recorders.items new × (now ≡ was) × (told ≡ thread)
+  pub same : (answer ≡ OK → ⊥) → HasRecorders old old.recorders.items new × (now ≡ was)
+      × (told ≡ thread)

@@ -12,7 +12,8 @@ use Rattle.gl_c.specs.declared.lane_state.LaneState.TheVariants.{Recording as Ru
 
 -- what recording an event answers: it is recorded, which takes one of the certain room at most; or there is no room; or
 -- it may not come next. In each case the place that it has in the thread's list, or would have had, is told
-pub record IsRecordOn (old : Recording) (event : Event) (answer : ℕ) (told : ℕ) (new : Recording) : Type 0 where
+pub record IsRecordOn (old : Recording) (event : Event) (answer : ℕ) (told : ℕ)
+    (new : Recording) : Type 0 where
   pub place : told ≡ length (recorded old)
   pub done : answer ≡ OK → (refusal old.limits old.thread (recorded old) event ≡ None)
       × (new ≡ with_pushed old (next_note old event) new.room)
@@ -21,7 +22,8 @@ pub record IsRecordOn (old : Recording) (event : Event) (answer : ℕ) (told : �
       × (new ≡ seen_full old)
   pub refused : (why : Refusal) → refusal old.limits old.thread (recorded old) event ≡ Some why
       → (answer ≡ refusal_code why) × (new ≡ old)
-  pub else : refusal old.limits old.thread (recorded old) event ≡ None → IsOneOf answer (OK ∷ FULL ∷ [])
+  pub else : refusal old.limits old.thread (recorded old) event ≡ None
+      → IsOneOf answer (OK ∷ FULL ∷ [])
   pub sure : 0 < old.room → refusal old.limits old.thread (recorded old) event ≡ None → answer ≡ OK
 
 -- the event is recorded, if there is a kind of event with this number; and else nothing is told
@@ -31,11 +33,14 @@ IsRecordOfKind old (Some event) was answer told new = IsRecordOn old event answe
 
 -- an event is recorded on a lane that is recorded on, and on no other
 abbrev pub IsRecordOfState : LaneState → ℕ → ℕ → ℕ → ℕ → ℕ → ℕ → LaneState → Type 0
-IsRecordOfState (Runs old) kind operand place was answer told (Runs new) = IsRecordOfKind old (event_of kind operand place) was answer told new
+IsRecordOfState (Runs old) kind operand place was answer told (Runs new) =
+    IsRecordOfKind old (event_of kind operand place) was answer told new
 IsRecordOfState (Runs old) kind operand place was answer told (HasClosed new) = ⊥
 IsRecordOfState (Runs old) kind operand place was answer told Lost = ⊥
-IsRecordOfState (HasClosed old) kind operand place was answer told new = (answer ≡ MISUSE) × (told ≡ was) × (new ≡ HasClosed old)
-IsRecordOfState Lost kind operand place was answer told new = (answer ≡ MISUSE) × (told ≡ was) × (new ≡ Lost)
+IsRecordOfState (HasClosed old) kind operand place was answer told new =
+    (answer ≡ MISUSE) × (told ≡ was) × (new ≡ HasClosed old)
+IsRecordOfState Lost kind operand place was answer told new =
+    (answer ≡ MISUSE) × (told ≡ was) × (new ≡ Lost)
 
 -- a lane that is recorded on ends; where there is certainly room it is closed, unless nobody is left to pull; and no other lane changes
 abbrev pub IsClose : LaneState → ℕ → LaneState → Type 0

@@ -15,30 +15,39 @@ names_for state made = unwrap_or made.names state.names
 
 -- the handle is of the Goodlock report of the lists by mention, with the names by mention
 abbrev pub IsByMention : Asked → NameLists → List (List Event) → Option MadeState → Type 0
-IsByMention asked names lists now = IsReportOf asked (lists_by_mention names lists) (Some (names_by_mention names lists)) now
+IsByMention asked names lists now =
+    IsReportOf asked (lists_by_mention names lists) (Some (names_by_mention names lists)) now
 
 -- such a report is made where all locks and places of the lists have names
-abbrev pub IsMakingByMention : Bool → Asked → NameLists → List (List Event) → Option MadeState → ℕ → Option MadeState → Type 0
-IsMakingByMention true asked names lists was answer now = IsMaking asked (lists_by_mention names lists) (Some (names_by_mention names lists)) was answer now
+abbrev pub IsMakingByMention : Bool → Asked → NameLists → List (List Event) → Option MadeState → ℕ
+    → Option MadeState → Type 0
+IsMakingByMention true asked names lists was answer now =
+    IsMaking asked (lists_by_mention names lists)
+    (Some (names_by_mention names lists)) was answer now
 IsMakingByMention false asked names lists was answer now = (answer ≡ UNNAMED) × (now ≡ was)
 
 -- it is made where there are such a query and such lists
-abbrev pub IsReportingByMention : Option Asked → NameLists → Option (List (List Event)) → Option MadeState → ℕ → Option MadeState → Type 0
+abbrev pub IsReportingByMention : Option Asked → NameLists → Option (List (List Event))
+    → Option MadeState → ℕ → Option MadeState → Type 0
 IsReportingByMention None names lists was answer now = (answer ≡ RANGE) × (now ≡ was)
 IsReportingByMention (Some asked) names None was answer now = (answer ≡ MISUSE) × (now ≡ was)
-IsReportingByMention (Some asked) names (Some lists) was answer now = IsMakingByMention (have_names names lists) asked names lists was answer now
+IsReportingByMention (Some asked) names (Some lists) was answer now =
+    IsMakingByMention (have_names names lists) asked names lists was answer now
 
 -- the report of a settled session is made so into a handle that was of nothing
-abbrev pub IsReportByMention : Option SessionState → Option Asked → Option MadeState → ℕ → Option MadeState → Type 0
+abbrev pub IsReportByMention : Option SessionState → Option Asked → Option MadeState → ℕ
+    → Option MadeState → Type 0
 IsReportByMention None asked was answer now = (answer ≡ MISUSE) × (now ≡ was)
 IsReportByMention (Some state) asked (Some made) answer now = (answer ≡ MISUSE) × (now ≡ Some made)
-IsReportByMention (Some state) asked None answer now = IsReportingByMention asked state.names (settled_lists state.stage) None answer now
+IsReportByMention (Some state) asked None answer now =
+    IsReportingByMention asked state.names (settled_lists state.stage) None answer now
 
 -- where lists tell the same, whatever numbers their locks and places have, what is made of them by mention is the same: the
 -- report, and the names that it is printed by
 abbrev pub SameTalesSameReport : Type 0
 SameTalesSameReport =
-    (asked : Asked) (names others : NameLists) (lists other_lists : List (List Event)) (made other : MadeState)
+    (asked : Asked) (names others : NameLists) (lists other_lists : List (List Event))
+    (made other : MadeState)
     → TellTheSame names lists others other_lists
     → IsByMention asked names lists (Some made) → IsByMention asked others other_lists (Some other)
     → made ≡ other

@@ -13,7 +13,8 @@ names_code names_fault.Full = NAMES
 names_code names_fault.Memory = MEMORY
 
 -- the name got its number among these names, which it joined where it is new; or nothing changed
-pub record IsNumbering (old : List (List ℕ)) (name : List ℕ) (was answer told : ℕ) (new : List (List ℕ)) : Type 0 where
+pub record IsNumbering (old : List (List ℕ)) (name : List ℕ) (was answer told : ℕ)
+    (new : List (List ℕ)) : Type 0 where
   pub answers : IsOneOf answer (OK ∷ NAMES ∷ MEMORY ∷ [])
   pub done : answer ≡ OK → (told ≡ number_of old name) × (new ≡ with_new old name)
   pub same : (answer ≡ OK → ⊥) → (told ≡ was) × (new ≡ old)
@@ -21,11 +22,13 @@ pub record IsNumbering (old : List (List ℕ)) (name : List ℕ) (was answer tol
   pub room : HaveNoNumber old name → answer ≡ NAMES
 
 -- the lock with this name got its number, and nothing else changed
-pub record IsNumberingLock (old : SessionState) (name : List ℕ) (was answer told : ℕ) (new : SessionState) : Type 0 where
+pub record IsNumberingLock (old : SessionState) (name : List ℕ) (was answer told : ℕ)
+    (new : SessionState) : Type 0 where
   pub locks : IsNumbering old.names.locks name was answer told new.names.locks
   pub rest : new ≡ record old { names = record old.names { locks = new.names.locks } }
 
 -- the same of a place
-pub record IsNumberingPlace (old : SessionState) (name : List ℕ) (was answer told : ℕ) (new : SessionState) : Type 0 where
+pub record IsNumberingPlace (old : SessionState) (name : List ℕ) (was answer told : ℕ)
+    (new : SessionState) : Type 0 where
   pub places : IsNumbering old.names.locs name was answer told new.names.locs
   pub rest : new ≡ record old { names = record old.names { locs = new.names.locs } }

@@ -20,14 +20,16 @@ abbrev pub thread_names : ℕ → List (List ℕ)
 thread_names count = map thread_name (range_with_len 0 count)
 
 -- these are the recorders of a session that was opened, the last thread's first
-pub record AreOpened (number : ℕ) (limits : Bounds) (recorders : List Recording) (collector : Collecting) : Type 0 where
+pub record AreOpened (number : ℕ) (limits : Bounds) (recorders : List Recording)
+    (collector : Collecting) : Type 0 where
   pub in_order : List Recording
   pub turned : recorders ≡ reverse in_order
   pub opened : IsOpened number limits in_order collector
 
 -- what runs was opened with these recorders
 abbrev pub IsNewStage : ℕ → Bounds → List Recording → Stage → Type 0
-IsNewStage number limits recorders (Runs r) = (r.limits ≡ limits) × AreOpened number limits recorders r.collector
+IsNewStage number limits recorders (Runs r) =
+    (r.limits ≡ limits) × AreOpened number limits recorders r.collector
 IsNewStage number limits recorders (HasSettled lists) = ⊥
 IsNewStage number limits recorders Gone = ⊥
 
@@ -52,7 +54,8 @@ open_refusal limits (Some state) = Some MISUSE
 open_refusal limits None = option_map (λ bad. RANGE) (first_out_of_range limits)
 
 -- a session is opened into a handle that was of nothing; or the handle is as it was
-pub record IsOpening (number : ℕ) (limits : Bounds) (was : Option SessionState) (answer : ℕ) (now : Option SessionState) : Type 0 where
+pub record IsOpening (number : ℕ) (limits : Bounds) (was : Option SessionState) (answer : ℕ)
+    (now : Option SessionState) : Type 0 where
   pub answers : IsAnswer (open_refusal limits was) answer
   pub done : answer ≡ OK → (was ≡ None) × IsNewOf number limits now
   pub same : (answer ≡ OK → ⊥) → now ≡ was

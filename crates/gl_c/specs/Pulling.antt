@@ -22,7 +22,11 @@ both a b = record { events = a.events + b.events; ended = a.ended + b.ended }
 
 -- how many of the notes tell events, and how many are end marks
 abbrev pub counted : List Note → PulledCount
-counted notes = record { events = count_by (λ note. not (is_end note.body)) notes; ended = count_by (λ note. is_end note.body) notes }
+counted notes =
+    record {
+      events = count_by (λ note. not (is_end note.body)) notes;
+      ended = count_by (λ note. is_end note.body) notes;
+    }
 
 -- what collects has the number, the limits and the lanes that it had
 pub record IsStillThat (old new : Collecting) : Type 0 where
@@ -31,7 +35,8 @@ pub record IsStillThat (old new : Collecting) : Type 0 where
   pub lanes : lanes_of new ≡ lanes_of old
 
 -- notes were pulled, which follow those collected before; so many of them tell events, and so many are end marks
-pub record ArePulled (AreTheirs : List Note → Type 0) (old new : Collecting) (count : PulledCount) : Type 0 where
+pub record ArePulled (AreTheirs : List Note → Type 0) (old new : Collecting)
+    (count : PulledCount) : Type 0 where
   pub still : IsStillThat old new
   pub notes : List Note
   pub theirs : AreTheirs notes
@@ -48,7 +53,8 @@ broken_at c thread = option_and_then (λ input. input.broken) (slice_get c.input
 
 -- no other thread's lane breaks
 abbrev pub AreOthersSame : ℕ → Collecting → Collecting → Type 0
-AreOthersSame thread old new = (other : ℕ) → (other ≡ thread → ⊥) → broken_at new other ≡ broken_at old other
+AreOthersSame thread old new =
+    (other : ℕ) → (other ≡ thread → ⊥) → broken_at new other ≡ broken_at old other
 
 -- how pulls off the thread's lane end: all is well, memory was refused, or the lane is broken. Where none was asked for, its lane isn't looked at
 pub record IsLaneEnd (thread most : ℕ) (now : Collecting) (answer : ℕ) : Type 0 where
@@ -57,13 +63,16 @@ pub record IsLaneEnd (thread most : ℕ) (now : Collecting) (answer : ℕ) : Typ
   pub whole : (answer ≡ BROKEN → ⊥) → 0 < most → broken_at now thread ≡ None
 
 -- how pulls off all lanes end: no lane is broken, or as many notes were pulled as were asked for; memory was refused; or a lane is broken
-pub record IsEndOfAll (most : ℕ) (now : Collecting) (count : PulledCount) (answer : ℕ) : Type 0 where
+pub record IsEndOfAll (most : ℕ) (now : Collecting) (count : PulledCount)
+    (answer : ℕ) : Type 0 where
   pub answers : IsOneOf answer (OK ∷ MEMORY ∷ BROKEN ∷ [])
   pub broken : answer ≡ BROKEN → (thread : ℕ) × IsSome (broken_at now thread)
-  pub whole : answer ≡ OK → count.events + count.ended < most → (thread : ℕ) → broken_at now thread ≡ None
+  pub whole : answer ≡ OK → count.events + count.ended < most → (thread : ℕ)
+      → broken_at now thread ≡ None
 
 -- one of the thread's notes was pulled
-pub record IsOnePull (thread : ℕ) (old : Collecting) (one : PulledCount) (new : Collecting) : Type 0 where
+pub record IsOnePull (thread : ℕ) (old : Collecting) (one : PulledCount)
+    (new : Collecting) : Type 0 where
   pub pulled : ArePulled (AreOfThread thread) old new one
   pub is_one : one.events + one.ended ≡ 1
   pub whole : broken_at new thread ≡ None
@@ -86,36 +95,43 @@ pub record AreInTurnsBelow (ring number : ℕ) (notes : List Note) : Type 0 wher
   pub below : All (λ note. note.thread < number) notes
 
 -- at most so many such notes were pulled
-pub record ArePulls (AreTheirs : List Note → Type 0) (most : ℕ) (old : Running) (count : PulledCount) (new : Running) : Type 0 where
+pub record ArePulls (AreTheirs : List Note → Type 0) (most : ℕ) (old : Running)
+    (count : PulledCount) (new : Running) : Type 0 where
   pub limits : new.limits ≡ old.limits
   pub pulled : ArePulled AreTheirs old.collector new.collector count
   pub most_are : count.events + count.ended ≤ most
 
 -- at most so many notes were pulled off the thread's lane
-pub record IsPullOff (thread most : ℕ) (old : Running) (count : PulledCount) (answer : ℕ) (new : Running) : Type 0 where
+pub record IsPullOff (thread most : ℕ) (old : Running) (count : PulledCount) (answer : ℕ)
+    (new : Running) : Type 0 where
   pub moved : ArePulls (AreOfThread thread) most old count new
   pub ends : IsLaneEnd thread most new.collector answer
   pub others : AreOthersSame thread old.collector new.collector
 
 -- at most so many notes were pulled, off each lane in turn
-pub record IsPullAll (most : ℕ) (old : Running) (count : PulledCount) (answer : ℕ) (new : Running) : Type 0 where
+pub record IsPullAll (most : ℕ) (old : Running) (count : PulledCount) (answer : ℕ)
+    (new : Running) : Type 0 where
   pub moved : ArePulls (AreInTurns old.limits.ring) most old count new
   pub ends : IsEndOfAll most new.collector count answer
 
 -- at most so many of the thread's notes were pulled, if there is such a thread
-pub record IsPullOfLane (thread most : ℕ) (old : Running) (count : PulledCount) (answer : ℕ) (new : Running) : Type 0 where
+pub record IsPullOfLane (thread most : ℕ) (old : Running) (count : PulledCount) (answer : ℕ)
+    (new : Running) : Type 0 where
   pub known : thread < old.limits.threads → IsPullOff thread most old count answer new
   pub unknown : old.limits.threads ≤ thread → (answer ≡ RANGE) × (count ≡ none_pulled) × (new ≡ old)
 
 -- a session that runs changes so, and another one is as it was
-abbrev pub IsPullingOn : (Running → PulledCount → ℕ → Running → Type 0) → Stage → PulledCount → ℕ → Stage → Type 0
+abbrev pub IsPullingOn : (Running → PulledCount → ℕ → Running → Type 0) → Stage → PulledCount → ℕ
+    → Stage → Type 0
 IsPullingOn Pulls (Runs old) count answer (Runs new) = Pulls old count answer new
 IsPullingOn Pulls (Runs old) count answer (HasSettled lists) = ⊥
 IsPullingOn Pulls (Runs old) count answer Gone = ⊥
-IsPullingOn Pulls (HasSettled lists) count answer new = (answer ≡ MISUSE) × (count ≡ none_pulled) × (new ≡ HasSettled lists)
+IsPullingOn Pulls (HasSettled lists) count answer new =
+    (answer ≡ MISUSE) × (count ≡ none_pulled) × (new ≡ HasSettled lists)
 IsPullingOn Pulls Gone count answer new = (answer ≡ MISUSE) × (count ≡ none_pulled) × (new ≡ Gone)
 
 -- what collects changes so, and all else of the session is as it was
-pub record IsPulling (Pulls : Running → PulledCount → ℕ → Running → Type 0) (old : SessionState) (count : PulledCount) (answer : ℕ) (new : SessionState) : Type 0 where
+pub record IsPulling (Pulls : Running → PulledCount → ℕ → Running → Type 0) (old : SessionState)
+    (count : PulledCount) (answer : ℕ) (new : SessionState) : Type 0 where
   pub stage : IsPullingOn Pulls old.stage count answer new.stage
   pub rest : new ≡ record old { stage = new.stage }

@@ -19,7 +19,9 @@ use Rattle.gl_c.specs.declared.session_state.Stage.TheVariants.{Running as Runs,
 
 -- the mode with this number
 abbrev pub mode_of : ℕ → Option Mode
-mode_of mode = if mode == BASIC then Some Basic else (if mode == GUARDED then Some Guarded else (if mode == FULL_MODE then Some Full else None))
+mode_of mode =
+    if mode == BASIC then Some Basic
+    else (if mode == GUARDED then Some Guarded else (if mode == FULL_MODE then Some Full else None))
 
 -- the query, if each of its numbers is in its range
 abbrev pub in_range : Asked → Option Asked
@@ -27,7 +29,8 @@ in_range asked = if is_some (first_out_of_range asked) then None else Some asked
 
 -- the query for these numbers, if each of them is in its range
 abbrev pub query_of : ℕ → ℕ → ℕ → Option Asked
-query_of mode length number = option_and_then (λ m. in_range (record { mode = m; len = length; max = number })) (mode_of mode)
+query_of mode length number =
+    option_and_then (λ m. in_range (record { mode = m; len = length; max = number })) (mode_of mode)
 
 -- the lists of what was pulled so far, of a session that runs
 abbrev pub lists_so_far : Stage → Option (List (List Event))
@@ -52,18 +55,21 @@ IsOf report names (Some made) = (made.report ≡ report) × (made.names ≡ name
 IsOf report names None = ⊥
 
 -- the report is put into the handle, or memory is refused; and where there is none, it is said why. The handle is as it was then
-pub record IsKeeping (was : Option MadeState) (report : Report) (names : Option NameLists) (answer : ℕ) (now : Option MadeState) : Type 0 where
+pub record IsKeeping (was : Option MadeState) (report : Report) (names : Option NameLists)
+    (answer : ℕ) (now : Option MadeState) : Type 0 where
   pub answers : IsOneOf answer (OK ∷ MEMORY ∷ [])
   pub done : answer ≡ OK → IsOf report names now
   pub same : (answer ≡ OK → ⊥) → now ≡ was
 
-abbrev pub IsKept : Option MadeState → Result Report ReportFault → Option NameLists → ℕ → Option MadeState → Type 0
+abbrev pub IsKept : Option MadeState → Result Report ReportFault → Option NameLists → ℕ
+    → Option MadeState → Type 0
 IsKept was (Ok report) names answer now = IsKeeping was report names answer now
 IsKept was (Err fault) names answer now = (answer ≡ report_code fault) × (now ≡ was)
 
 -- the handle is of the Goodlock report of these lists, with these names of its own or with none
 abbrev pub IsReportOf : Asked → List (List Event) → Option NameLists → Option MadeState → Type 0
-IsReportOf asked lists names (Some made) = IsGoodlockReport asked lists made.report × (made.names ≡ names)
+IsReportOf asked lists names (Some made) =
+    IsGoodlockReport asked lists made.report × (made.names ≡ names)
 IsReportOf asked lists names None = ⊥
 
 -- the lists have no report, for this reason
@@ -73,19 +79,24 @@ pub record HaveNoReport (lists : List (List Event)) (answer : ℕ) : Type 0 wher
   pub tells : answer ≡ report_code fault
 
 -- the Goodlock report of the lists is made into the handle; or the handle is as it was, and it is said why
-pub record IsMaking (asked : Asked) (lists : List (List Event)) (names : Option NameLists) (was : Option MadeState) (answer : ℕ) (now : Option MadeState) : Type 0 where
+pub record IsMaking (asked : Asked) (lists : List (List Event)) (names : Option NameLists)
+    (was : Option MadeState) (answer : ℕ) (now : Option MadeState) : Type 0 where
   pub done : answer ≡ OK → IsReportOf asked lists names now
   pub same : (answer ≡ OK → ⊥) → now ≡ was
   pub fault : (answer ≡ OK → ⊥) → HaveNoReport lists answer
 
 -- a report is made where there are such a query and such lists. It has no names of its own
-abbrev pub IsReporting : Option Asked → Option (List (List Event)) → Option MadeState → ℕ → Option MadeState → Type 0
+abbrev pub IsReporting : Option Asked → Option (List (List Event)) → Option MadeState → ℕ
+    → Option MadeState → Type 0
 IsReporting None lists was answer now = (answer ≡ RANGE) × (now ≡ was)
 IsReporting (Some asked) None was answer now = (answer ≡ MISUSE) × (now ≡ was)
 IsReporting (Some asked) (Some lists) was answer now = IsMaking asked lists None was answer now
 
 -- a session's report is made into a handle that was of nothing
-abbrev pub IsReportCall : (Stage → Option (List (List Event))) → Option SessionState → Option Asked → Option MadeState → ℕ → Option MadeState → Type 0
+abbrev pub IsReportCall : (Stage → Option (List (List Event))) → Option SessionState → Option Asked
+    → Option MadeState → ℕ → Option MadeState → Type 0
 IsReportCall lists_of None asked was answer now = (answer ≡ MISUSE) × (now ≡ was)
-IsReportCall lists_of (Some state) asked (Some made) answer now = (answer ≡ MISUSE) × (now ≡ Some made)
-IsReportCall lists_of (Some state) asked None answer now = IsReporting asked (lists_of state.stage) None answer now
+IsReportCall lists_of (Some state) asked (Some made) answer now =
+    (answer ≡ MISUSE) × (now ≡ Some made)
+IsReportCall lists_of (Some state) asked None answer now =
+    IsReporting asked (lists_of state.stage) None answer now

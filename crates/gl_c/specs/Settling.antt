@@ -14,7 +14,8 @@ use Rattle.gl_c.specs.declared.session_state.Stage.TheVariants.{Running as Runs,
 
 -- each receipt of a running session's number is of one of its lanes
 abbrev pub AreOurs : Stage → List Closed → Type 0
-AreOurs (Runs r) receipts = AreOfRecorders r.collector.session r.collector.limits (lanes_of r.collector) receipts
+AreOurs (Runs r) receipts =
+    AreOfRecorders r.collector.session r.collector.limits (lanes_of r.collector) receipts
 AreOurs (HasSettled lists) receipts = Unit {0}
 AreOurs Gone receipts = Unit {0}
 
@@ -36,7 +37,8 @@ IsToldMissing (Some missing) was answer told = (answer ≡ MISSING) × (told ≡
 IsToldMissing None was answer told = (answer ≡ STRANGE) × (told ≡ was)
 
 -- this stands against settling what was collected with these receipts, and is told
-pub record IsUnsettled (collected : Collecting) (receipts : List Closed) (was answer told : ℕ) : Type 0 where
+pub record IsUnsettled (collected : Collecting) (receipts : List Closed)
+    (was answer told : ℕ) : Type 0 where
   pub fault : UnsettledFault
   pub is : IsUnsettledFault collected receipts fault
   pub tells : IsToldMissing (missing_thread fault) was answer told
@@ -46,13 +48,16 @@ pub record IsUnsettled (collected : Collecting) (receipts : List Closed) (was an
 abbrev pub IsSettling : Running → List Closed → ℕ → ℕ → ℕ → Stage → Type 0
 IsSettling old receipts was answer told (HasSettled lists) =
     (answer ≡ OK) × (told ≡ was) × IsSettledAlone old.collector receipts lists
-IsSettling old receipts was answer told (Runs new) = (new.collector ≡ old.collector) × (new.limits ≡ old.limits) × IsUnsettled old.collector receipts was answer told
+IsSettling old receipts was answer told (Runs new) =
+    (new.collector ≡ old.collector) × (new.limits ≡ old.limits)
+    × IsUnsettled old.collector receipts was answer told
 IsSettling old receipts was answer told Gone = ⊥
 
 -- a session that runs is settled, and another one is as it was
 abbrev pub IsSettled : Stage → List Closed → ℕ → ℕ → ℕ → Stage → Type 0
 IsSettled (Runs old) receipts was answer told new = IsSettling old receipts was answer told new
-IsSettled (HasSettled lists) receipts was answer told new = (answer ≡ MISUSE) × (told ≡ was) × (new ≡ HasSettled lists)
+IsSettled (HasSettled lists) receipts was answer told new =
+    (answer ≡ MISUSE) × (told ≡ was) × (new ≡ HasSettled lists)
 IsSettled Gone receipts was answer told new = (answer ≡ MISUSE) × (told ≡ was) × (new ≡ Gone)
 
 -- the session is settled so with the receipts that were handed in, and all else is as it was

@@ -48,18 +48,21 @@ Shows Two report = Unit {0}
 Shows Three report = report.trim ≡ None
 
 -- a report over the trace's own edges: each listed cycle is one of them that was asked for, and they ascend. Where findings are listed, each is shown by such a cycle
-pub record IsTrueReport (trace : Trace) (listing : Listing) (before : Segment → Segment → Bool) (report : Report) : Type 0 where
+pub record IsTrueReport (trace : Trace) (listing : Listing) (before : Segment → Segment → Bool)
+    (report : Report) : Type 0 where
   -- its edges are those of the trace's lists, with their samples
   pub own_edges : report.edges ≡ edges trace.lists
   -- what was asked is in its ranges, and no more cycles are listed
   pub in_range : first_out_of_range report.query ≡ None
   pub few : length report.found.cycles ≤ report.query.max
   -- each is a cycle of the mode and of at most the length asked for
-  pub cycles : All (IsCycleAt before report.query.mode report.query.len (edges_of_table report.edges)) report.found.cycles
+  pub cycles : All (IsCycleAt before report.query.mode report.query.len
+      (edges_of_table report.edges)) report.found.cycles
   -- each cycle, or each finding, is above the one before it
   pub ascend : Ascend listing report.edges report.found.cycles
   -- its trim order, if it has one, takes away each edge
-  pub trim : IfSome report.trim (IsWholeRemoval before report.query.mode (edges_of_table report.edges))
+  pub trim : IfSome report.trim
+      (IsWholeRemoval before report.query.mode (edges_of_table report.edges))
 
 -- the bytes are the JSON of a true report, and this is said of it
 pub record IsChecked (trace : Trace) (json : List ℕ) (checked : Checked) : Type 0 where
@@ -78,13 +81,15 @@ pub record IsChecked (trace : Trace) (json : List ℕ) (checked : Checked) : Typ
   pub counted : checked.cycles ≡ length report.found.cycles
   pub trimmed : checked.acyclic ≡ is_some report.trim
   -- then the trace has no cycle of the mode, of whatever length
-  pub none_of_any_length : checked.acyclic ≡ true → (len : ℕ) (positions : List ℕ) → ¬ IsCycleAt before report.query.mode len (edges_of_table (edges trace.lists)) positions
+  pub none_of_any_length : checked.acyclic ≡ true → (len : ℕ) (positions : List ℕ)
+      → ¬ IsCycleAt before report.query.mode len (edges_of_table (edges trace.lists)) positions
 
 -- the format shows a table of all edges
 abbrev pub ShowsTable : Format → Type 0
 ShowsTable format = format ≢ One
 
-module _ (names : NameLists) (table : List (Edge × Sample)) (before : Segment → Segment → Bool) (said : Data) where
+module _ (names : NameLists) (table : List (Edge × Sample)) (before : Segment → Segment → Bool)
+    (said : Data) where
   -- the table that is printed, which formats 2 and 3 have, is this one
   abbrev pub HasTable : Format → Type 0
   HasTable One = Unit {0}
@@ -93,11 +98,13 @@ module _ (names : NameLists) (table : List (Edge × Sample)) (before : Segment �
 
   -- the listed cycles are cycles that were asked for, at these positions, and ascend
   abbrev pub AreListedAt : List (List ℕ) → Type 0
-  AreListedAt found = AreCyclesOf (format_in said) names table before (asked_in said) (cycles_in said) found
+  AreListedAt found =
+      AreCyclesOf (format_in said) names table before (asked_in said) (cycles_in said) found
 
   -- the trim order, if one is said, takes away each edge
   abbrev pub HasWholeTrim : Type 0
-  HasWholeTrim = IfSome (trim_in said) (IsWholeRemoval before (asked_in said).mode (edges_of_table table))
+  HasWholeTrim =
+      IfSome (trim_in said) (IsWholeRemoval before (asked_in said).mode (edges_of_table table))
 
   -- this is the first place at which the trim order that is said is wrong
   pub record IsWrongTrim (place : ℕ) : Type 0 where
@@ -126,7 +133,8 @@ module _ (names : NameLists) (table : List (Edge × Sample)) (before : Segment �
   -- the table is right, and this is the fault of the first listed cycle that has one
   pub record IsCyclesFault (fault : CheckFault) : Type 0 where
     pub printed_table : HasTable (format_in said)
-    pub first : IsFirstFault (format_in said) names table before (asked_in said) (cycles_in said) fault
+    pub first : IsFirstFault (format_in said) names table before (asked_in said)
+        (cycles_in said) fault
 
   -- table and cycles are right, and this is the first place at which the trim order is wrong
   pub record IsTrimFault (place : ℕ) : Type 0 where
@@ -137,7 +145,9 @@ module _ (names : NameLists) (table : List (Edge × Sample)) (before : Segment �
 
   -- this is the first thing said that is false
   abbrev pub IsFirstFalse : CheckFault → Type 0
-  IsFirstFalse (Table k) = ShowsTable (format_in said) × IsFirstDifference (items_under (codes "edges") said) (map (edge_tree names) table) k
+  IsFirstFalse (Table k) =
+      ShowsTable (format_in said)
+      × IsFirstDifference (items_under (codes "edges") said) (map (edge_tree names) table) k
   IsFirstFalse (AnEdge i k) = IsCyclesFault (AnEdge i k)
   IsFirstFalse (Verdict i verdict) = IsCyclesFault (Verdict i verdict)
   IsFirstFalse (Order i) = IsCyclesFault (Order i)
@@ -184,7 +194,8 @@ IsOrderFault lists (Trim i) = ⊥
 abbrev pub IsCheckFault : Trace → List ℕ → CheckFault → Type 0
 IsCheckFault trace json Json = IsUtf8 json → read json ≡ None
 IsCheckFault trace json Shape = (d : Data) × Reads json d × (is_report d ≡ false)
-IsCheckFault trace json (Inconsistent at ring) = (d : Data) × Reads json d × (is_report d ≡ true) × IsLeastInRing trace.lists at ring.items
+IsCheckFault trace json (Inconsistent at ring) =
+    (d : Data) × Reads json d × (is_report d ≡ true) × IsLeastInRing trace.lists at ring.items
 IsCheckFault trace json (Table k) = IsReportFault trace json (Table k)
 IsCheckFault trace json (AnEdge i k) = IsReportFault trace json (AnEdge i k)
 IsCheckFault trace json (Verdict i verdict) = IsReportFault trace json (Verdict i verdict)

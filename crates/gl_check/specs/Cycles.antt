@@ -24,11 +24,13 @@ use Rattle.gl_check.specs.declared.faults.CheckFault.TheVariants.{Json, Shape, I
 
 -- the numbers are above the last of these, by the first in which they differ
 abbrev pub IsAboveLast : List (List ℕ) → List ℕ → Type 0
-IsAboveLast lists numbers = IfSome (slice_get lists (length lists - 1)) (λ last. slice_cmp nat_cmp last numbers ≡ Less)
+IsAboveLast lists numbers =
+    IfSome (slice_get lists (length lists - 1)) (λ last. slice_cmp nat_cmp last numbers ≡ Less)
 
 -- the cycle at these positions is above the last of those found: by its positions, and where findings are listed by their signatures
 abbrev pub IsAbove : Listing → List (Edge × Sample) → List (List ℕ) → List ℕ → Type 0
-IsAbove listing table found positions = IsAboveLast (map (compared_by listing table) found) (compared_by listing table positions)
+IsAbove listing table found positions =
+    IsAboveLast (map (compared_by listing table) found) (compared_by listing table positions)
 
 module _ (format : Format) (names : NameLists) (table : List (Edge × Sample)) where
   -- the first of these that is the JSON of no edge is the one at this place
@@ -40,7 +42,8 @@ module _ (format : Format) (names : NameLists) (table : List (Edge × Sample)) w
     pub positions : List ℕ
     pub before : AreNamed format names table (take place ds) positions
 
-module _ (format : Format) (names : NameLists) (table : List (Edge × Sample)) (before : Segment → Segment → Bool) (asked : Asked) where
+module _ (format : Format) (names : NameLists) (table : List (Edge × Sample))
+    (before : Segment → Segment → Bool) (asked : Asked) where
   -- these name the edges at these positions, and the edges are a cycle that was asked for
   pub record IsCycleOf (ds : List Data) (positions : List ℕ) : Type 0 where
     pub edges : AreNamed format names table ds positions
@@ -53,10 +56,15 @@ module _ (format : Format) (names : NameLists) (table : List (Edge × Sample)) (
 
   -- the fault is that of the listed cycle with this number, which comes after those found
   abbrev pub IsFaultOf : ℕ → List (List ℕ) → List Data → CheckFault → Type 0
-  IsFaultOf number found ds (AnEdge i k) = (format ≡ One) × (i ≡ number) × IsFirstStrange format names table ds k
+  IsFaultOf number found ds (AnEdge i k) =
+      (format ≡ One) × (i ≡ number) × IsFirstStrange format names table ds k
   IsFaultOf number found ds (Verdict i verdict) =
-      (i ≡ number) × ((positions : List ℕ) × AreNamed format names table ds positions × IsVerdict before asked (picked (edges_of_table table) positions) verdict × (verdict ≢ Valid))
-  IsFaultOf number found ds (Order i) = (i ≡ number) × ((positions : List ℕ) × IsCycleOf ds positions × (¬ IsAbove (listing_of format) table found positions))
+      (i ≡ number) × ((positions : List ℕ) × AreNamed format names table ds positions
+      × IsVerdict before asked (picked (edges_of_table table) positions) verdict
+      × (verdict ≢ Valid))
+  IsFaultOf number found ds (Order i) =
+      (i ≡ number) × ((positions : List ℕ) × IsCycleOf ds positions
+      × (¬ IsAbove (listing_of format) table found positions))
   IsFaultOf number found ds Memory = Unit {0}
   IsFaultOf number found ds Json = ⊥
   IsFaultOf number found ds Shape = ⊥

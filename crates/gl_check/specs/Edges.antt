@@ -15,7 +15,8 @@ abbrev pub IsPrintOf : NameLists → Data → Edge × Sample → Type 0
 IsPrintOf names d pair = (is_exclusive pair.0 ≡ true) × (d ≡ edge_tree_v1 names pair)
 
 -- the JSON is that of the edge at this position of a table
-pub record IsEdgeAt (names : NameLists) (table : List (Edge × Sample)) (d : Data) (position : ℕ) : Type 0 where
+pub record IsEdgeAt (names : NameLists) (table : List (Edge × Sample)) (d : Data)
+    (position : ℕ) : Type 0 where
   pub pair : Edge × Sample
   pub there : slice_get table position ≡ Some pair
   pub prints : IsPrintOf names d pair

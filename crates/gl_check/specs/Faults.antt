@@ -13,7 +13,8 @@ text_of Json = codes "report is not JSON"
 text_of Shape = codes "report has the wrong shape"
 text_of (Inconsistent at ring) = codes "a segment precedes itself"
 text_of (Table k) = codes "table entry " ++ decimal k ++ codes " is wrong"
-text_of (Edge i k) = codes "cycle " ++ (decimal i ++ (codes " edge " ++ (decimal k ++ codes " is not in the trace")))
+text_of (Edge i k) =
+    codes "cycle " ++ (decimal i ++ (codes " edge " ++ (decimal k ++ codes " is not in the trace")))
 text_of (Verdict i verdict) = codes "cycle " ++ decimal i ++ codes " is not valid"
 text_of (Order i) = codes "cycle " ++ decimal i ++ codes " is out of order"
 text_of (Trim i) = codes "trim entry " ++ decimal i ++ codes " is wrong"
@@ -26,4 +27,7 @@ listing_word Findings = codes "findings"
 
 -- what is printed of a report that is accepted
 abbrev pub checked_text : Checked → List ℕ
-checked_text checked = codes "ok, " ++ (listing_word checked.listing ++ (codes ": " ++ (decimal checked.cycles ++ (if checked.acyclic then codes ", none of any length" else []))))
+checked_text checked =
+    codes "ok, " ++ (listing_word checked.listing
+    ++ (codes ": " ++ (decimal checked.cycles
+    ++ (if checked.acyclic then codes ", none of any length" else []))))

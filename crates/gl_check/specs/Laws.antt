@@ -15,4 +15,5 @@ AreOtherFindings table shown = AllPairs (λ one other. ¬ AreOneFinding table on
 
 -- a true report of findings lists none twice, whichever cycles show them
 abbrev pub NoneIsToldTwice : Trace → (Segment → Segment → Bool) → Report → Type 0
-NoneIsToldTwice trace before report = IsTrueReport trace Findings before report → AreOtherFindings report.edges report.found.cycles
+NoneIsToldTwice trace before report =
+    IsTrueReport trace Findings before report → AreOtherFindings report.edges report.found.cycles

@@ -37,7 +37,9 @@ is_below bound d = unwrap_or (option_map (λ n. nat_lt n bound) (whole d)) false
 
 -- the letter for the mode of a lock
 abbrev pub is_letter : Data → Bool
-is_letter d = unwrap_or (option_map (λ word. bytes_eq word (codes "x") || bytes_eq word (codes "s")) (as_str d)) false
+is_letter d =
+    unwrap_or (option_map (λ word. bytes_eq word (codes "x") || bytes_eq word (codes "s"))
+    (as_str d)) false
 
 -- the mode that a word stands for
 abbrev pub mode_said : List ℕ → Option Mode
@@ -75,7 +77,8 @@ abbrev pub have_fields : List (List ℕ × Kind) → Members → Bool
 have_fields [] no_members = true
 have_fields [] (member key d rest) = false
 have_fields (field ∷ fields) no_members = false
-have_fields (field ∷ fields) (member key d rest) = bytes_eq key field.0 && (is_of field.1 d && have_fields fields rest)
+have_fields (field ∷ fields) (member key d rest) =
+    bytes_eq key field.0 && (is_of field.1 d && have_fields fields rest)
 
 -- an object with exactly these keys, which ascend, and under each a value of its kind
 abbrev pub has_fields : List (List ℕ × Kind) → Data → Bool
@@ -84,24 +87,30 @@ has_fields fields d = unwrap_or (option_map (have_fields fields) (as_object d)) 
 -- the keys of an edge of format 1
 abbrev pub edge_fields_v1 : List (List ℕ × Kind)
 edge_fields_v1 =
-    (codes "first", Number) ∷ (codes "guards", Names) ∷ (codes "held", Name) ∷ (codes "held_at", Name) ∷ (codes "place", Number) ∷ (codes "second", Number)
+    (codes "first", Number) ∷ (codes "guards", Names) ∷ (codes "held", Name)
+    ∷ (codes "held_at", Name) ∷ (codes "place", Number) ∷ (codes "second", Number)
     ∷ (codes "thread", Name) ∷ (codes "wanted", Name) ∷ (codes "wanted_at", Name) ∷ []
 
 -- the keys of an edge of formats 2 and 3
 abbrev pub edge_fields : List (List ℕ × Kind)
 edge_fields =
-    (codes "first", Number) ∷ (codes "guard_modes", Letters) ∷ (codes "guards", Names) ∷ (codes "held", Name) ∷ (codes "held_at", Name) ∷ (codes "held_mode", Letter)
-    ∷ (codes "place", Number) ∷ (codes "second", Number) ∷ (codes "thread", Name) ∷ (codes "wanted", Name) ∷ (codes "wanted_at", Name) ∷ (codes "wanted_mode", Letter) ∷ []
+    (codes "first", Number) ∷ (codes "guard_modes", Letters) ∷ (codes "guards", Names)
+    ∷ (codes "held", Name) ∷ (codes "held_at", Name) ∷ (codes "held_mode", Letter)
+    ∷ (codes "place", Number) ∷ (codes "second", Number) ∷ (codes "thread", Name)
+    ∷ (codes "wanted", Name) ∷ (codes "wanted_at", Name) ∷ (codes "wanted_mode", Letter) ∷ []
 
 -- the keys of a report
 abbrev pub report_fields : Format → List (List ℕ × Kind)
 report_fields One =
-    (codes "cycles", Array) ∷ (codes "format", Exactly 1) ∷ (codes "len", Number) ∷ (codes "max", Number) ∷ (codes "mode", Word) ∷ (codes "more", Flag) ∷ []
+    (codes "cycles", Array) ∷ (codes "format", Exactly 1) ∷ (codes "len", Number)
+    ∷ (codes "max", Number) ∷ (codes "mode", Word) ∷ (codes "more", Flag) ∷ []
 report_fields Two =
-    (codes "cycles", Array) ∷ (codes "edges", Array) ∷ (codes "format", Exactly 2) ∷ (codes "len", Number) ∷ (codes "max", Number) ∷ (codes "mode", Word)
+    (codes "cycles", Array) ∷ (codes "edges", Array) ∷ (codes "format", Exactly 2)
+    ∷ (codes "len", Number) ∷ (codes "max", Number) ∷ (codes "mode", Word)
     ∷ (codes "more", Flag) ∷ (codes "trim", Trim) ∷ []
 report_fields Three =
-    (codes "edges", Array) ∷ (codes "findings", Array) ∷ (codes "format", Exactly 3) ∷ (codes "len", Number) ∷ (codes "max", Number) ∷ (codes "mode", Word)
+    (codes "edges", Array) ∷ (codes "findings", Array) ∷ (codes "format", Exactly 3)
+    ∷ (codes "len", Number) ∷ (codes "max", Number) ∷ (codes "mode", Word)
     ∷ (codes "more", Flag) ∷ []
 
 -- the whole number under a key
@@ -110,15 +119,23 @@ number_under key d = unwrap_or (option_and_then whole (get key d)) 0
 
 -- the mode whose word stands under `mode`
 abbrev pub mode_under : Data → Mode
-mode_under d = unwrap_or (option_and_then mode_said (option_and_then as_str (get (codes "mode") d))) Basic
+mode_under d =
+    unwrap_or (option_and_then mode_said (option_and_then as_str (get (codes "mode") d))) Basic
 
 -- what was asked
 abbrev pub asked_in : Data → Asked
-asked_in d = record { mode = mode_under d; len = number_under (codes "len") d; max = number_under (codes "max") d }
+asked_in d =
+    record {
+      mode = mode_under d;
+      len = number_under (codes "len") d;
+      max = number_under (codes "max") d;
+    }
 
 -- the format that it says it has, where it is 1, 2 or 3
 abbrev pub format_in : Data → Format
-format_in d = if number_under (codes "format") d == 1 then One else (if number_under (codes "format") d == 3 then Three else Two)
+format_in d =
+    if number_under (codes "format") d == 1 then One
+    else (if number_under (codes "format") d == 3 then Three else Two)
 
 -- what is listed in a format
 abbrev pub listing_of : Format → Listing
@@ -150,7 +167,9 @@ trim_in d = option_and_then order_of (get (codes "trim") d)
 
 -- an edge of formats 2 and 3, with a mode for each guard
 abbrev pub is_edge : Data → Bool
-is_edge d = has_fields edge_fields d && (length (items_under (codes "guard_modes") d) == length (items_under (codes "guards") d))
+is_edge d =
+    has_fields edge_fields d
+    && (length (items_under (codes "guard_modes") d) == length (items_under (codes "guards") d))
 
 -- what names an edge in a cycle: in format 1 the edge itself, in the others its position among so many
 abbrev pub is_member : Format → ℕ → Data → Bool
@@ -169,4 +188,5 @@ is_report d =
     && (is_none (first_out_of_range (asked_in d))
     && (nat_le (length (listings_in (format_in d) d)) (asked_in d).max
     && (list_all is_edge (items_under (codes "edges") d)
-    && list_all (is_listing (format_in d) (length (items_under (codes "edges") d))) (listings_in (format_in d) d))))
+    && list_all (is_listing (format_in d) (length (items_under (codes "edges") d)))
+    (listings_in (format_in d) d))))

@@ -16,7 +16,9 @@ lesser one other = if is_le (slice_cmp nat_cmp one other) then one else other
 
 -- the least of the turns of a signature
 abbrev pub least_turn : List ℕ → List ℕ
-least_turn signature = fold (λ least k. lesser least (turned k signature)) signature (range_with_len 0 (length signature))
+least_turn signature =
+    fold (λ least k. lesser least (turned k signature)) signature
+    (range_with_len 0 (length signature))
 
 -- the signature of a finding, by the positions of a cycle that shows it, told from where it begins least
 abbrev pub told_signature : List (Edge × Sample) → List ℕ → List ℕ
@@ -30,7 +32,8 @@ compared_by Findings table positions = told_signature table positions
 -- what is listed ascends, so that none stands twice: cycles by their positions, and those that show findings by the signatures
 abbrev pub Ascend : Listing → List (Edge × Sample) → List (List ℕ) → Type 0
 Ascend Cycles table shown = IsStrictlySortedBy (slice_cmp nat_cmp) shown
-Ascend Findings table shown = IsStrictlySortedBy (slice_cmp nat_cmp) (map (told_signature table) shown)
+Ascend Findings table shown =
+    IsStrictlySortedBy (slice_cmp nat_cmp) (map (told_signature table) shown)
 
 -- the classes by which signatures are told, where findings are listed
 abbrev pub AreClassesFor : Listing → List (Edge × Sample) → List ℕ → Type 0

@@ -46,10 +46,14 @@ report_of listing asked before trace = listing_by listing asked before (edges tr
 
 -- a report that lists cycles, or findings, in the form that is asked for
 abbrev pub printed_report : Listing → Form → NameLists → Report → List ℕ
-printed_report lists.Cycles Text names report = report_text names report.edges report.found.cycles report.found.more
-printed_report lists.Cycles Json names report = compact_text (report_tree names report) ++ codes "\n"
-printed_report lists.Findings Text names report = findings_text names report.edges report.found.cycles report.found.more
-printed_report lists.Findings Json names report = compact_text (findings_tree names report.query report.edges report.found) ++ codes "\n"
+printed_report lists.Cycles Text names report =
+    report_text names report.edges report.found.cycles report.found.more
+printed_report lists.Cycles Json names report =
+    compact_text (report_tree names report) ++ codes "\n"
+printed_report lists.Findings Text names report =
+    findings_text names report.edges report.found.cycles report.found.more
+printed_report lists.Findings Json names report =
+    compact_text (findings_tree names report.query report.edges report.found) ++ codes "\n"
 
 -- whether a report lists a cycle, or a finding
 abbrev pub outcome_of : Report → Outcome
@@ -63,7 +67,8 @@ prediction listing asked form before trace =
 
 -- `stats` prints the counts of the trace and of the report that lists cycles
 abbrev pub counts : Asked → (Segment → Segment → Bool) → Trace → Answer
-counts asked before trace = Prints (stats_text (stats_of trace (report_of lists.Cycles asked before trace))) Done
+counts asked before trace =
+    Prints (stats_text (stats_of trace (report_of lists.Cycles asked before trace))) Done
 
 -- `replay` prints the trace as a text, and needs no order of segments
 abbrev pub replay : Trace → Answer
@@ -72,13 +77,19 @@ replay trace = Prints (written trace.names trace.lists) Done
 -- ---- what is answered to a text
 
 -- under these limits, by a command that prints this of a trace and of the order of its segments
-pub data IsAnswerUnder (limits : Bounds) (printed : (Segment → Segment → Bool) → Trace → Answer) (text : List ℕ) : Answer → Type 0 where
+pub data IsAnswerUnder (limits : Bounds) (printed : (Segment → Segment → Bool) → Trace → Answer)
+    (text : List ℕ) : Answer → Type 0 where
   -- the first line with a fault
-  bad_line : (line : ℕ) (kind : StdKind) → trace_of limits text ≡ Err (Line line kind) → IsAnswerUnder limits printed text (Refusal (fault_line line kind))
+  bad_line : (line : ℕ) (kind : StdKind) → trace_of limits text ≡ Err (Line line kind)
+      → IsAnswerUnder limits printed text (Refusal (fault_line line kind))
   -- forks and joins that can't have happened
-  no_order : (trace : Trace) (at : Segment) → trace_of limits text ≡ Ok trace → IsLeastBeforeItself trace.lists at → IsAnswerUnder limits printed text (Refusal (inconsistent_line trace.names at))
+  no_order : (trace : Trace) (at : Segment) → trace_of limits text ≡ Ok trace
+      → IsLeastBeforeItself trace.lists at
+      → IsAnswerUnder limits printed text (Refusal (inconsistent_line trace.names at))
   -- what is printed of the trace
-  ordered : (trace : Trace) (before : Segment → Segment → Bool) → trace_of limits text ≡ Ok trace → IsConsistent trace.lists → DecidesBefore trace.lists before → IsAnswerUnder limits printed text (printed before trace)
+  ordered : (trace : Trace) (before : Segment → Segment → Bool) → trace_of limits text ≡ Ok trace
+      → IsConsistent trace.lists → DecidesBefore trace.lists before
+      → IsAnswerUnder limits printed text (printed before trace)
 
 -- under the greatest limits
 abbrev pub IsAnswer : ((Segment → Segment → Bool) → Trace → Answer) → List ℕ → Answer → Type 0
@@ -87,14 +98,20 @@ IsAnswer printed text answer = IsAnswerUnder greatest printed text answer
 -- by a command that prints this of a trace, be there an order of its segments or not
 pub data IsPlainAnswer (printed : Trace → Answer) (text : List ℕ) : Answer → Type 0 where
   -- the first line with a fault
-  bad_line : (line : ℕ) (kind : StdKind) → trace_of greatest text ≡ Err (Line line kind) → IsPlainAnswer printed text (Refusal (fault_line line kind))
+  bad_line : (line : ℕ) (kind : StdKind) → trace_of greatest text ≡ Err (Line line kind)
+      → IsPlainAnswer printed text (Refusal (fault_line line kind))
   -- what is printed of the trace
-  plain : (trace : Trace) → trace_of greatest text ≡ Ok trace → IsPlainAnswer printed text (printed trace)
+  plain : (trace : Trace) → trace_of greatest text ≡ Ok trace
+      → IsPlainAnswer printed text (printed trace)
 
 -- a text has one answer
 abbrev pub AnswersAreUnique : Type 0
 AnswersAreUnique =
-    (limits : Bounds) (printed : (Segment → Segment → Bool) → Trace → Answer) (text : List ℕ) (a b : Answer) → IsAnswerUnder limits printed text a → IsAnswerUnder limits printed text b → a ≡ b
+    (limits : Bounds) (printed : (Segment → Segment → Bool) → Trace → Answer) (text : List ℕ)
+    (a b : Answer) → IsAnswerUnder limits printed text a → IsAnswerUnder limits printed text b
+    → a ≡ b
 
 abbrev pub PlainAnswersAreUnique : Type 0
-PlainAnswersAreUnique = (printed : Trace → Answer) (text : List ℕ) (a b : Answer) → IsPlainAnswer printed text a → IsPlainAnswer printed text b → a ≡ b
+PlainAnswersAreUnique =
+    (printed : Trace → Answer) (text : List ℕ) (a b : Answer) → IsPlainAnswer printed text a
+    → IsPlainAnswer printed text b → a ≡ b

@@ -43,12 +43,15 @@ said_line names other = codes "goodlock: " ++ text_of other ++ codes "\n"
 -- what is answered
 pub data IsCheckAnswer (input : List ℕ) : Answer → Type 0 where
   -- the first line of the trace with a fault
-  bad_line : (line : ℕ) (kind : StdKind) → trace_of greatest (trace_in input) ≡ Err (Line line kind) → IsCheckAnswer input (Refusal (fault_line line kind))
+  bad_line : (line : ℕ) (kind : StdKind) → trace_of greatest (trace_in input) ≡ Err (Line line kind)
+      → IsCheckAnswer input (Refusal (fault_line line kind))
   -- the first fault of the report
-  refused : (trace : Trace) (fault : CheckFault) → trace_of greatest (trace_in input) ≡ Ok trace → IsCheckFault trace (report_in input) fault → fault ≢ Memory
+  refused : (trace : Trace) (fault : CheckFault) → trace_of greatest (trace_in input) ≡ Ok trace
+      → IsCheckFault trace (report_in input) fault → fault ≢ Memory
       → IsCheckAnswer input (Refusal (said_line trace.names fault))
   -- the report is accepted
-  accepted : (trace : Trace) (checked : Checked) → trace_of greatest (trace_in input) ≡ Ok trace → IsChecked trace (report_in input) checked
+  accepted : (trace : Trace) (checked : Checked) → trace_of greatest (trace_in input) ≡ Ok trace
+      → IsChecked trace (report_in input) checked
       → IsCheckAnswer input (Prints (checked_text checked ++ codes "\n") Done)
 
 -- ---- it was or it wasn't
@@ -57,10 +60,15 @@ pub data IsCheckAnswer (input : List ℕ) : Answer → Type 0 where
 -- `after`; each may have failed
 pub data HasChecked (turns : ℕ) (input : SourceUse) (output : SinkUse) : Ended → Type 0 where
   -- memory for the input was refused while it was read, and nothing was written
-  out_of_memory : Keeps output.before output.after → output.failed ≡ false → HasChecked turns input output ended.Memory
+  out_of_memory : Keeps output.before output.after → output.failed ≡ false
+      → HasChecked turns input output ended.Memory
   -- only this much was read: the lines of its trace that LF had ended are judged, and nothing was written
-  cut_short : (bytes : List ℕ) (how : Ended) → HasRead turns input.before input.after input.failed bytes false → EndsEarlyAs greatest (trace_in bytes) how
+  cut_short : (bytes : List ℕ) (how : Ended)
+      → HasRead turns input.before input.after input.failed bytes false
+      → EndsEarlyAs greatest (trace_in bytes) how
       → Keeps output.before output.after → output.failed ≡ false → HasChecked turns input output how
   -- the input was read whole
-  ended_so : (bytes : List ℕ) (how : Ended) → HasRead turns input.before input.after input.failed bytes true → EndsAs IsCheckAnswer bytes output.before output.after output.failed how
+  ended_so : (bytes : List ℕ) (how : Ended)
+      → HasRead turns input.before input.after input.failed bytes true
+      → EndsAs IsCheckAnswer bytes output.before output.after output.failed how
       → HasChecked turns input output how

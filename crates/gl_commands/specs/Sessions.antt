@@ -21,7 +21,11 @@ session_prediction options = prediction (listing_of options) options.query optio
 
 -- the end of a session that predicts, after at most so many turns over this reader and this writer: the text is read whole first, or, where
 -- the options say so, recorded as it comes, under a limit of threads
-pub record HasEndedSession (options : LiveOptions) (turns : ℕ) (input : SourceUse) (output : SinkUse) (ended : Ended) : Type 0 where
-  pub read_first : options.stream ≡ false → HasEndedLive (IsAnswer (session_prediction options)) turns input output ended
+pub record HasEndedSession (options : LiveOptions) (turns : ℕ) (input : SourceUse)
+    (output : SinkUse) (ended : Ended) : Type 0 where
+  pub read_first : options.stream ≡ false
+      → HasEndedLive (IsAnswer (session_prediction options)) turns input output ended
   pub as_it_comes : options.stream ≡ true
-      → HasEndedStreamed (with_threads options.threads) (IsAnswerUnder (with_threads options.threads) (session_prediction options)) turns input output ended
+      → HasEndedStreamed (with_threads options.threads)
+      (IsAnswerUnder (with_threads options.threads) (session_prediction options)) turns input
+      output ended

@@ -10,8 +10,11 @@ use Rattle.gl_filters.specs.Test.{is_cycle}
 -- the lists of at most n numbers below size, in lexicographic order
 abbrev pub lists_below : ℕ → ℕ → List (List ℕ)
 lists_below size zero = [] ∷ []
-lists_below size (suc n) = [] ∷ flat_map (λ i. map (λ rest. i ∷ rest) (lists_below size n)) (range_with_len 0 size)
+lists_below size (suc n) =
+    [] ∷ flat_map (λ i. map (λ rest. i ∷ rest) (lists_below size n)) (range_with_len 0 size)
 
 -- the cycles of this mode of at most len edges, in the order of their edges
 unfoldable pub all_cycles : (Segment → Segment → Bool) → Mode → ℕ → List Edge → List (List ℕ)
-all_cycles before mode len edges = filter (λ positions. is_cycle before mode (picked edges positions)) (lists_below (length edges) len)
+all_cycles before mode len edges =
+    filter (λ positions. is_cycle before mode (picked edges positions))
+    (lists_below (length edges) len)

@@ -7,7 +7,8 @@ use Rattle.gl_filters.specs.Cycle.{IsCycle}
 use Rattle.gl_filters.specs.Picked.{picked}
 
 -- these are the positions of the edges of a cycle of this mode, of at most len edges
-pub record IsCycleAt (before : Segment → Segment → Bool) (mode : Mode) (len : ℕ) (edges : List Edge) (positions : List ℕ) : Type 0 where
+pub record IsCycleAt (before : Segment → Segment → Bool) (mode : Mode) (len : ℕ) (edges : List Edge)
+    (positions : List ℕ) : Type 0 where
   -- an edge stands at each of them
   pub within : All (λ i. i < length edges) positions
   -- and these are a cycle

@@ -26,7 +26,8 @@ report_by asked before pairs =
     }
 
 -- this is the report over these edges, by the order of these lists
-pub record IsReport (asked : Asked) (pairs : List (Edge × Sample)) (lists : List (List Event)) (report : Report) : Type 0 where
+pub record IsReport (asked : Asked) (pairs : List (Edge × Sample)) (lists : List (List Event))
+    (report : Report) : Type 0 where
   -- no segment of the lists is before itself
   pub consistent : IsConsistent lists
   -- a test of which of their segments is before which
@@ -48,14 +49,18 @@ IsGoodlockReport asked lists report = IsReport asked (edges lists) lists report
 -- which report it is follows from what was asked, the edges and the lists
 abbrev pub ReportsAreUnique : Type 0
 ReportsAreUnique =
-    (asked : Asked) (pairs : List (Edge × Sample)) (lists : List (List Event)) (a b : Report) → IsReport asked pairs lists a → IsReport asked pairs lists b → a ≡ b
+    (asked : Asked) (pairs : List (Edge × Sample)) (lists : List (List Event)) (a b : Report)
+    → IsReport asked pairs lists a → IsReport asked pairs lists b → a ≡ b
 
 -- so does the segment that stands against it
 abbrev pub LoopsAreUnique : Type 0
 LoopsAreUnique =
-    (lists : List (List Event)) (a b : Segment) (ring other : List Segment) → IsLeastInRing lists a ring → IsLeastInRing lists b other → a ≡ b
+    (lists : List (List Event)) (a b : Segment) (ring other : List Segment)
+    → IsLeastInRing lists a ring → IsLeastInRing lists b other → a ≡ b
 
 -- and where there is one, there is no report
 abbrev pub NoReportOfLoops : Type 0
 NoReportOfLoops =
-    (asked : Asked) (pairs : List (Edge × Sample)) (lists : List (List Event)) (report : Report) (at : Segment) (ring : List Segment) → IsLeastInRing lists at ring → ¬ IsReport asked pairs lists report
+    (asked : Asked) (pairs : List (Edge × Sample)) (lists : List (List Event)) (report : Report)
+    (at : Segment) (ring : List Segment) → IsLeastInRing lists at ring
+    → ¬ IsReport asked pairs lists report

@@ -35,7 +35,8 @@ edge_of thread es wanted mode lock =
 
 -- where that edge is seen, if the acquire of the wanted lock stands at this location
 abbrev pub sample_of : List Event → ℕ → ℕ → Sample
-sample_of es loc lock = record { place = length es; held_loc = (events.entry_of es lock).loc; wanted_loc = loc }
+sample_of es loc lock =
+    record { place = length es; held_loc = (events.entry_of es lock).loc; wanted_loc = loc }
 
 -- both
 abbrev pub pair_at : ℕ → List Event → ℕ → LockMode → ℕ → ℕ → Edge × Sample
@@ -50,11 +51,14 @@ edges_wanting thread es wanted mode loc =
 
 -- the edges that an event makes after these events: only one that wants a lock makes edges
 abbrev pub edges_after : ℕ → List Event → Event → List (Edge × Sample)
-edges_after thread es e = option_map_or (λ wanted. edges_wanting thread es wanted (events.lock_mode e) (events.location e)) (events.wanted_lock e) []
+edges_after thread es e =
+    option_map_or (λ wanted. edges_wanting thread es wanted (events.lock_mode e)
+    (events.location e)) (events.wanted_lock e) []
 
 -- the edges that the event at this place of a thread's list makes
 unfoldable pub edges_at : ℕ → List Event → ℕ → List (Edge × Sample)
-edges_at thread es place = option_map_or (edges_after thread (take place es)) (slice_get es place) []
+edges_at thread es place =
+    option_map_or (edges_after thread (take place es)) (slice_get es place) []
 
 -- the edges of a thread's events at the first n places, in their order
 abbrev pub edges_below : ℕ → List Event → ℕ → List (Edge × Sample)
@@ -79,7 +83,8 @@ lesser new old = if is_lt (sample_cmp new old) then new else old
 
 -- the table with one more pair: an edge that is there already keeps the lesser sample
 abbrev pub keep : FinMap edge_cmp Sample → Edge × Sample → FinMap edge_cmp Sample
-keep known pair = table.insert known pair.0 (option_map_or (lesser pair.1) (table.get known pair.0) pair.1)
+keep known pair =
+    table.insert known pair.0 (option_map_or (lesser pair.1) (table.get known pair.0) pair.1)
 
 -- the table of these pairs: at each edge its least sample
 abbrev pub least_samples : List (Edge × Sample) → FinMap edge_cmp Sample

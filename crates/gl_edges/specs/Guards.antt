@@ -30,10 +30,16 @@ abbrev pub guard_eq : Guard → Guard → Bool
 guard_eq a b = nat_eq a.lock b.lock && nat_eq (rank a.mode) (rank b.mode)
 
 pub guard_total : IsTotalOrder guard_cmp
-guard_total = then_total (on_total (λ g. g.lock) nat_cmp_total) (on_total (λ g. g.mode) (on_total rank nat_cmp_total))
+guard_total =
+    then_total (on_total (λ g. g.lock) nat_cmp_total)
+    (on_total (λ g. g.mode) (on_total rank nat_cmp_total))
 
 pub guard_equiv : IsEquivalence guard_eq
-guard_equiv = and_equiv (on_equiv (λ (g : Guard). g.lock) nat_eq_equiv) (on_equiv (λ (g : Guard). g.mode) (on_equiv rank nat_eq_equiv))
+guard_equiv =
+    and_equiv (on_equiv (λ (g : Guard). g.lock) nat_eq_equiv)
+    (on_equiv (λ (g : Guard). g.mode) (on_equiv rank nat_eq_equiv))
 
 pub guard_ties : (a b : Guard) → guard_eq a b ≡ eq_by_cmp guard_cmp a b
-guard_ties a b = both_tied _ _ (nat_cmp a.lock b.lock) (mode_cmp a.mode b.mode) (unsigned_ties a.lock b.lock) (unsigned_ties (rank a.mode) (rank b.mode))
+guard_ties a b =
+    both_tied _ _ (nat_cmp a.lock b.lock) (mode_cmp a.mode b.mode) (unsigned_ties a.lock b.lock)
+    (unsigned_ties (rank a.mode) (rank b.mode))

@@ -49,7 +49,8 @@ pub record IsMadeFirst (lists : List (List Event)) (edge : Edge) (sample : Sampl
   -- and at no earlier place
   pub first : (place : ℕ) → Makes es place edge → sample.place ≤ place
   -- where in the source the held lock was opened
-  pub held_at : option_map location (slice_get es (opened (take sample.place es) edge.held)) ≡ Some sample.held_loc
+  pub held_at : option_map location (slice_get es (opened (take sample.place es) edge.held))
+      ≡ Some sample.held_loc
   -- where in the source the wanted lock was acquired
   pub wanted_at : option_map location (slice_get es sample.place) ≡ Some sample.wanted_loc
 

@@ -19,7 +19,8 @@ pub record AreNumbered (all : List (List Guard)) (by : Numbering) : Type 0 where
   -- each number stands for the guard set at its position
   pub stands : (i n : ℕ) → slice_get by.ids i ≡ Some n → slice_get by.sets n ≡ slice_get all i
   -- no other number does
-  pub once : (m n : ℕ) (guards : List Guard) → slice_get by.sets m ≡ Some guards → slice_get by.sets n ≡ Some guards → m ≡ n
+  pub once : (m n : ℕ) (guards : List Guard) → slice_get by.sets m ≡ Some guards
+      → slice_get by.sets n ≡ Some guards → m ≡ n
   -- each is given
   pub given : (n : ℕ) → n < length by.sets → Contains by.ids n
   -- and lesser ones were given before

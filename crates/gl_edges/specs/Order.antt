@@ -33,4 +33,5 @@ AreAscending pairs = IsStrictlySortedBy edge_cmp (map (λ pair. pair.0) pairs)
 
 -- the edge is above the last one of these, if there is one
 abbrev pub IsAboveLast : List (Edge × Sample) → Edge → Type 0
-IsAboveLast pairs edge = IfSome (slice_get pairs (length pairs - 1)) (λ last. edge_cmp last.0 edge ≡ Less)
+IsAboveLast pairs edge =
+    IfSome (slice_get pairs (length pairs - 1)) (λ last. edge_cmp last.0 edge ≡ Less)

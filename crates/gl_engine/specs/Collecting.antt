@@ -40,12 +40,21 @@ fresh_input lane = record { lane = lane; popped = []; broken = None }
 
 -- the collector of a session whose recorders have these lanes, before the first pull
 abbrev pub fresh_collecting : ℕ → Bounds → List LaneId → Collecting
-fresh_collecting session limits lanes = record { session = session; limits = limits; inputs = map fresh_input lanes; stream = []; made = [] }
+fresh_collecting session limits lanes =
+    record {
+      session = session;
+      limits = limits;
+      inputs = map fresh_input lanes;
+      stream = [];
+      made = [];
+    }
 
 -- a new session: a recorder for each thread, in order, and a collector that has the other ends of their lanes
-pub record IsOpened (session : ℕ) (limits : Bounds) (recorders : List Recording) (collector : Collecting) : Type 0 where
+pub record IsOpened (session : ℕ) (limits : Bounds) (recorders : List Recording)
+    (collector : Collecting) : Type 0 where
   pub count : length recorders ≡ limits.threads
-  pub fresh : (thread : ℕ) (r : Recording) → slice_get recorders thread ≡ Some r → IsFresh session limits thread r
+  pub fresh : (thread : ℕ) (r : Recording) → slice_get recorders thread ≡ Some r
+      → IsFresh session limits thread r
   pub collects : collector ≡ fresh_collecting session limits (map (λ r. r.lane) recorders)
 
 -- the note as one of this thread, whichever it names
@@ -78,13 +87,22 @@ side_of c input = record { input = input; stream = c.stream; made = c.made }
 
 -- the collector with this at the side of the thread, and all else as it was
 abbrev pub with_side : Collecting → ℕ → Side → Collecting
-with_side c thread side = record c { inputs = slice_set c.inputs thread side.input; stream = side.stream; made = side.made }
+with_side c thread side =
+    record c {
+      inputs = slice_set c.inputs thread side.input;
+      stream = side.stream;
+      made = side.made;
+    }
 
 -- this note is popped, joins the stream as one of the thread, and its edges join those made
 abbrev pub with_pulled : ℕ → Side → Note → Side
 with_pulled thread side note =
     let own = as_of thread note in
-    record { input = pop_note side.input note; stream = side.stream ++ own ∷ []; made = side.made ++ edges_of_next side.stream own }
+    record {
+      input = pop_note side.input note;
+      stream = side.stream ++ own ∷ [];
+      made = side.made ++ edges_of_next side.stream own;
+    }
 
 -- the lane is broken
 abbrev pub break_lane : Side → Refused → Side
@@ -96,7 +114,8 @@ pulled_of (accepted.Event place) = Event place
 pulled_of (accepted.Ended count) = Ended count
 
 -- a note was pulled off the thread's lane: its thread's next one
-pub record HasPulled (limits : Bounds) (thread : ℕ) (old : Side) (answer : Pulled) (new : Side) : Type 0 where
+pub record HasPulled (limits : Bounds) (thread : ℕ) (old : Side) (answer : Pulled)
+    (new : Side) : Type 0 where
   pub running : old.input.broken ≡ None
   pub note : Note
   pub next : IsNext limits old.stream (as_of thread note)
@@ -104,7 +123,8 @@ pub record HasPulled (limits : Bounds) (thread : ℕ) (old : Side) (answer : Pul
   pub moved : new ≡ with_pulled thread old note
 
 -- the lane's front note was refused, and stays
-pub record HasRefused (limits : Bounds) (thread : ℕ) (old : Side) (why : Refused) (new : Side) : Type 0 where
+pub record HasRefused (limits : Bounds) (thread : ℕ) (old : Side) (why : Refused)
+    (new : Side) : Type 0 where
   pub running : old.input.broken ≡ None
   pub note : Note
   pub refused : note_refusal limits old.stream (as_of thread note) ≡ Some why
@@ -115,18 +135,26 @@ abbrev pub IsSidePull : Bounds → ℕ → Side → Result Pulled PullFault → 
 IsSidePull limits thread old (Ok Empty) new = (old.input.broken ≡ None) × (new ≡ old)
 IsSidePull limits thread old (Ok (Event place)) new = HasPulled limits thread old (Event place) new
 IsSidePull limits thread old (Ok (Ended count)) new = HasPulled limits thread old (Ended count) new
-IsSidePull limits thread old (Err (Broken why)) new = ((old.input.broken ≡ Some why) × (new ≡ old)) ⊎ HasRefused limits thread old why new
+IsSidePull limits thread old (Err (Broken why)) new =
+    ((old.input.broken ≡ Some why) × (new ≡ old)) ⊎ HasRefused limits thread old why new
 IsSidePull limits thread old (Err Memory) new = (old.input.broken ≡ None) × (new ≡ old)
 
 -- a pull from the thread's lane, which has this input, changes its side of the collector alone, and that as the answer tells
-pub record IsPull (old : Collecting) (thread : ℕ) (input : Pulling) (answer : Result Pulled PullFault) (new : Collecting) : Type 0 where
+pub record IsPull (old : Collecting) (thread : ℕ) (input : Pulling)
+    (answer : Result Pulled PullFault) (new : Collecting) : Type 0 where
   pub side : Side
   pub tells : IsSidePull old.limits thread (side_of old input) answer side
   pub moved : new ≡ with_side old thread side
 
 -- where a lane is broken, the answer is that it is; and where it is, or where a pull finds no note or no memory, nothing changes
 pub record UnpulledIsUnchanged : Type 0 where
-  pub broken : (old : Collecting) (thread : ℕ) (input : Pulling) (answer : Result Pulled PullFault) (new : Collecting) (why : Refused) → slice_get old.inputs thread ≡ Some input → input.broken ≡ Some why
+  pub broken : (old : Collecting) (thread : ℕ) (input : Pulling) (answer : Result Pulled PullFault)
+      (new : Collecting) (why : Refused) → slice_get old.inputs thread ≡ Some input
+      → input.broken ≡ Some why
       → IsPull old thread input answer new → (answer ≡ Err (Broken why)) × (new ≡ old)
-  pub empty : (old : Collecting) (thread : ℕ) (input : Pulling) (new : Collecting) → slice_get old.inputs thread ≡ Some input → IsPull old thread input (Ok Empty) new → new ≡ old
-  pub memory : (old : Collecting) (thread : ℕ) (input : Pulling) (new : Collecting) → slice_get old.inputs thread ≡ Some input → IsPull old thread input (Err Memory) new → new ≡ old
+  pub empty : (old : Collecting) (thread : ℕ) (input : Pulling) (new : Collecting)
+      → slice_get old.inputs thread ≡ Some input → IsPull old thread input (Ok Empty) new
+      → new ≡ old
+  pub memory : (old : Collecting) (thread : ℕ) (input : Pulling) (new : Collecting)
+      → slice_get old.inputs thread ≡ Some input → IsPull old thread input (Err Memory) new
+      → new ≡ old

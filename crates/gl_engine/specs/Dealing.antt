@@ -10,12 +10,14 @@ use Rattle.gl_world.specs.Machine.{edges_due}
 
 -- the edges that a note makes which joins these
 abbrev pub edges_of_next : List Note → Note → List (Edge × Sample)
-edges_of_next before note = edges_due note.thread (events_of note.thread (before ++ note ∷ [])) note.place note.body
+edges_of_next before note =
+    edges_due note.thread (events_of note.thread (before ++ note ∷ [])) note.place note.body
 
 -- the edges that these notes make, one note after the other, after those before
 abbrev pub made_after : List Note → List Note → List (Edge × Sample)
 made_after before [] = []
-made_after before (note ∷ notes) = edges_of_next before note ++ made_after (before ++ note ∷ []) notes
+made_after before (note ∷ notes) =
+    edges_of_next before note ++ made_after (before ++ note ∷ []) notes
 
 -- the edges that the notes of a stream make, in its order
 unfoldable pub made_by : List Note → List (Edge × Sample)

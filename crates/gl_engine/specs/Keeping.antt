@@ -20,7 +20,8 @@ pub record AreNotesOf (limits : Bounds) (thread : ℕ) (notes : List Note) : Typ
   pub in_order : AreInOrder limits notes
 
 -- a recorder pushed its thread's notes, in order and no end mark, and tracks the events that they tell
-pub record IsRecorder (limits : Bounds) (thread : ℕ) (pushed : List Note) (taker : Taking) : Type 0 where
+pub record IsRecorder (limits : Bounds) (thread : ℕ) (pushed : List Note)
+    (taker : Taking) : Type 0 where
   pub known : thread < limits.threads
   pub tracks : Tracks limits thread (events_of thread pushed) taker
   pub notes : AreNotesOf limits thread pushed
@@ -34,26 +35,32 @@ pub record IsReceipt (limits : Bounds) (thread : ℕ) (pushed : List Note) (take
 
 -- what contracts see of an input
 abbrev pub pulling_of : LaneInput → Pulling
-pulling_of input = record { lane = input.lane.lane; popped = input.lane.popped; broken = input.broken }
+pulling_of input =
+    record { lane = input.lane.lane; popped = input.lane.popped; broken = input.broken }
 
 -- the lane's front note, read as one of the thread, may not come next, for this reason
-pub record IsStuck (limits : Bounds) (thread : ℕ) (stream : List Note) (lane : Popping) (why : Refused) : Type 0 where
+pub record IsStuck (limits : Bounds) (thread : ℕ) (stream : List Note) (lane : Popping)
+    (why : Refused) : Type 0 where
   pub note : Note
   pub front : IsPrefix (note ∷ []) lane.left
   pub refused : note_refusal limits stream (as_of thread note) ≡ Some why
 
 -- where the input has its lane broken, the front note is the cause
 abbrev pub BreaksForCause : Bounds → ℕ → List Note → LaneInput → Type 0
-BreaksForCause limits thread stream input = (why : Refused) → input.broken ≡ Some why → IsStuck limits thread stream input.lane why
+BreaksForCause limits thread stream input =
+    (why : Refused) → input.broken ≡ Some why → IsStuck limits thread stream input.lane why
 
 -- the inputs are the threads': the stream has of each thread what was popped off its lane, and a lane breaks for cause
 pub record AreInputs (limits : Bounds) (inputs : List LaneInput) (stream : List Note) : Type 0 where
   pub count : length inputs ≡ limits.threads
-  pub told : (thread : ℕ) (input : LaneInput) → slice_get inputs thread ≡ Some input → notes_of thread stream ≡ map (as_of thread) input.lane.popped
-  pub cause : (thread : ℕ) (input : LaneInput) → slice_get inputs thread ≡ Some input → BreaksForCause limits thread stream input
+  pub told : (thread : ℕ) (input : LaneInput) → slice_get inputs thread ≡ Some input
+      → notes_of thread stream ≡ map (as_of thread) input.lane.popped
+  pub cause : (thread : ℕ) (input : LaneInput) → slice_get inputs thread ≡ Some input
+      → BreaksForCause limits thread stream input
 
 -- a collector's inputs and edges made are those of its stream, which has each thread's notes in order
-pub record IsCollector (limits : Bounds) (inputs : List LaneInput) (stream : List Note) (made : List (Edge × Sample)) (collecting : Bounds) : Type 0 where
+pub record IsCollector (limits : Bounds) (inputs : List LaneInput) (stream : List Note)
+    (made : List (Edge × Sample)) (collecting : Bounds) : Type 0 where
   pub inputs_are : AreInputs limits inputs stream
   pub in_order : AreInOrder limits stream
   pub made_are : AreMade limits.threads stream made

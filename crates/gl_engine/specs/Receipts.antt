@@ -11,16 +11,20 @@ has_receipt receipts thread = list_any (λ r. r.thread == thread) receipts
 
 -- the receipt is of another session, of an unknown thread, or of a thread that one of those before is of
 unfoldable pub is_strange : ℕ → ℕ → List Closed → Closed → Bool
-is_strange session threads before r = not (r.session == session) || (nat_le threads r.thread || has_receipt before r.thread)
+is_strange session threads before r =
+    not (r.session == session) || (nat_le threads r.thread || has_receipt before r.thread)
 
 -- each receipt of this session and a known thread is of the thread's recorder: it has the other end of its lane
 abbrev pub AreOfRecorders : ℕ → Bounds → List LaneId → List Closed → Type 0
 AreOfRecorders session limits lanes receipts =
-    (at : ℕ) (r : Closed) → slice_get receipts at ≡ Some r → r.session ≡ session → (lane : LaneId) → slice_get lanes r.thread ≡ Some lane → (r.lane ≡ lane) × (r.limits ≡ limits)
+    (at : ℕ) (r : Closed) → slice_get receipts at ≡ Some r → r.session ≡ session → (lane : LaneId)
+    → slice_get lanes r.thread ≡ Some lane → (r.lane ≡ lane) × (r.limits ≡ limits)
 
 -- none of the first receipts, up to this place, is strange
 abbrev pub AreOwnBelow : ℕ → ℕ → List Closed → ℕ → Type 0
-AreOwnBelow session threads receipts at = (i : ℕ) (r : Closed) → i < at → slice_get receipts i ≡ Some r → is_strange session threads (take i receipts) r ≡ false
+AreOwnBelow session threads receipts at =
+    (i : ℕ) (r : Closed) → i < at → slice_get receipts i ≡ Some r
+    → is_strange session threads (take i receipts) r ≡ false
 
 -- each of the first threads, up to this one, has a receipt
 abbrev pub AreThereBelow : List Closed → ℕ → Type 0

@@ -63,8 +63,23 @@ last_note r = end_note r.thread (length (recorded r))
 
 -- what is left of a recorder that closes
 abbrev pub closed_of : Recording → Closed
-closed_of r = record { session = r.session; thread = r.thread; limits = r.limits; lane = r.lane; pushed = r.pushed ++ last_note r ∷ [] }
+closed_of r =
+    record {
+      session = r.session;
+      thread = r.thread;
+      limits = r.limits;
+      lane = r.lane;
+      pushed = r.pushed ++ last_note r ∷ [];
+    }
 
 -- a recorder of this session and thread that has taken nothing yet, with its ring free
 abbrev pub IsFresh : ℕ → Bounds → ℕ → Recording → Type 0
-IsFresh session limits thread r = r ≡ record { session = session; thread = thread; limits = limits; lane = r.lane; pushed = []; room = limits.ring }
+IsFresh session limits thread r =
+    r ≡ record {
+      session = session;
+      thread = thread;
+      limits = limits;
+      lane = r.lane;
+      pushed = [];
+      room = limits.ring;
+    }

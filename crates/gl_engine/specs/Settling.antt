@@ -19,7 +19,8 @@ use Rattle.gl_engine.specs.declared.faults.UnsettledFault.TheVariants as unsettl
 
 -- the lists are the receipts', thread by thread
 pub record AreListsOf (receipts : List Closed) (lists : List (List Event)) : Type 0 where
-  pub each : (at : ℕ) (r : Closed) → slice_get receipts at ≡ Some r → slice_get lists r.thread ≡ Some (recorded_whole r)
+  pub each : (at : ℕ) (r : Closed) → slice_get receipts at ≡ Some r
+      → slice_get lists r.thread ≡ Some (recorded_whole r)
   pub one_each : (thread : ℕ) → thread < length lists → has_receipt receipts thread ≡ true
 
 -- ---- after a run
@@ -27,11 +28,17 @@ pub record AreListsOf (receipts : List Closed) (lists : List (List Event)) : Typ
 -- why nothing is settled: the first strange receipt, else the first missing one, with what was gathered as it was; else what went wrong
 -- in the run
 abbrev pub IsSettleFault : Gathering → List Closed → SettleFault → Type 0
-IsSettleFault g receipts (fault.Strange at back) = (back ≡ g) × IsFirstStrange g.session g.limits.threads receipts at
-IsSettleFault g receipts (fault.Missing thread back) = (back ≡ g) × AreOwnBelow g.session g.limits.threads receipts (length receipts) × IsFirstMissing g.limits.threads receipts thread
-IsSettleFault g receipts fault.Memory = AreComplete g.session g.limits.threads receipts × (g.fault ≡ Some kept.Memory)
-IsSettleFault g receipts (fault.Gone shard) = AreComplete g.session g.limits.threads receipts × (g.fault ≡ Some (kept.Gone shard))
-IsSettleFault g receipts (fault.Broken thread refused) = AreComplete g.session g.limits.threads receipts × (g.fault ≡ Some (kept.Broken thread refused))
+IsSettleFault g receipts (fault.Strange at back) =
+    (back ≡ g) × IsFirstStrange g.session g.limits.threads receipts at
+IsSettleFault g receipts (fault.Missing thread back) =
+    (back ≡ g) × AreOwnBelow g.session g.limits.threads receipts (length receipts)
+    × IsFirstMissing g.limits.threads receipts thread
+IsSettleFault g receipts fault.Memory =
+    AreComplete g.session g.limits.threads receipts × (g.fault ≡ Some kept.Memory)
+IsSettleFault g receipts (fault.Gone shard) =
+    AreComplete g.session g.limits.threads receipts × (g.fault ≡ Some (kept.Gone shard))
+IsSettleFault g receipts (fault.Broken thread refused) =
+    AreComplete g.session g.limits.threads receipts × (g.fault ≡ Some (kept.Broken thread refused))
 
 -- the run had no memory, or a worker was gone: what is left to go wrong where all receipts are there
 abbrev pub IsMemoryOrGone : SettleFault → Type 0
@@ -82,6 +89,11 @@ pub record IsSettledAlone (c : Collecting) (receipts : List Closed) (all : List 
 
 -- why a collector isn't settled: the first strange receipt, else the first missing one, else the first missing end mark. It is as it was
 abbrev pub IsUnsettledFault : Collecting → List Closed → UnsettledFault → Type 0
-IsUnsettledFault c receipts (unsettled.Strange at back) = (back ≡ c) × IsFirstStrange c.session c.limits.threads receipts at
-IsUnsettledFault c receipts (unsettled.Missing thread back) = (back ≡ c) × AreOwnBelow c.session c.limits.threads receipts (length receipts) × IsFirstMissing c.limits.threads receipts thread
-IsUnsettledFault c receipts (unsettled.Unended thread back) = (back ≡ c) × AreComplete c.session c.limits.threads receipts × IsFirstUnended c.limits.threads c.stream thread
+IsUnsettledFault c receipts (unsettled.Strange at back) =
+    (back ≡ c) × IsFirstStrange c.session c.limits.threads receipts at
+IsUnsettledFault c receipts (unsettled.Missing thread back) =
+    (back ≡ c) × AreOwnBelow c.session c.limits.threads receipts (length receipts)
+    × IsFirstMissing c.limits.threads receipts thread
+IsUnsettledFault c receipts (unsettled.Unended thread back) =
+    (back ≡ c) × AreComplete c.session c.limits.threads receipts
+    × IsFirstUnended c.limits.threads c.stream thread

@@ -24,22 +24,30 @@ pub record Wishes (r : Recording) (lane : Lane) (event : Event) : Type 0 where
 pub record RecordIsTake : Type 0 where
   pub taken : (r : Recording) (lane : Lane) (event : Event) (room : ℕ) → Wishes r lane event
       → refusal_of r event ≡ None → has_room r.limits lane ≡ true
-      → ((take_turn r.limits r.thread lane).did ≡ Taken (length (recorded r))) × ((take_turn r.limits r.thread lane).lane.pushed ≡ (with_pushed r (next_note r event) room).pushed)
+      → ((take_turn r.limits r.thread lane).did ≡ Taken (length (recorded r)))
+      × ((take_turn r.limits r.thread lane).lane.pushed
+      ≡ (with_pushed r (next_note r event) room).pushed)
   pub refused : (r : Recording) (lane : Lane) (event : Event) (why : Refusal)
       → Wishes r lane event → refusal_of r event ≡ Some why
-      → ((take_turn r.limits r.thread lane).did ≡ Passed why) × ((take_turn r.limits r.thread lane).lane.pushed ≡ r.pushed)
+      → ((take_turn r.limits r.thread lane).did ≡ Passed why)
+      × ((take_turn r.limits r.thread lane).lane.pushed ≡ r.pushed)
   pub full : (r : Recording) (lane : Lane) (event : Event) → Wishes r lane event
       → refusal_of r event ≡ None → has_room r.limits lane ≡ false
       → take_turn r.limits r.thread lane ≡ rest lane
 
 -- a recorder closes as the machine's thread ends: where there is room its end mark is pushed, and else nothing happens
 pub record CloseIsEnd : Type 0 where
-  pub closed : (r : Recording) (lane : Lane) → lane.pushed ≡ r.pushed → has_closed r.thread lane ≡ false → has_room r.limits lane ≡ true
-      → ((end_turn r.limits r.thread lane).did ≡ Ended) × ((end_turn r.limits r.thread lane).lane.pushed ≡ (closed_of r).pushed)
-  pub full : (r : Recording) (lane : Lane) → lane.pushed ≡ r.pushed → has_closed r.thread lane ≡ false → has_room r.limits lane ≡ false → end_turn r.limits r.thread lane ≡ rest lane
+  pub closed : (r : Recording) (lane : Lane) → lane.pushed ≡ r.pushed
+      → has_closed r.thread lane ≡ false → has_room r.limits lane ≡ true
+      → ((end_turn r.limits r.thread lane).did ≡ Ended)
+      × ((end_turn r.limits r.thread lane).lane.pushed ≡ (closed_of r).pushed)
+  pub full : (r : Recording) (lane : Lane) → lane.pushed ≡ r.pushed
+      → has_closed r.thread lane ≡ false → has_room r.limits lane ≡ false
+      → end_turn r.limits r.thread lane ≡ rest lane
 
 -- this is the machine's state whose stream and edges made are the collector's, and its thread has this lane, of which this note is the next
-pub record Offers (c : Collecting) (s : State) (thread : ℕ) (lane : Lane) (note : Note) : Type 0 where
+pub record Offers (c : Collecting) (s : State) (thread : ℕ) (lane : Lane)
+    (note : Note) : Type 0 where
   pub sound : IsSound s
   pub limits : s.limits ≡ c.limits
   pub stream : s.stream ≡ c.stream
@@ -49,10 +57,16 @@ pub record Offers (c : Collecting) (s : State) (thread : ℕ) (lane : Lane) (not
 
 -- a note is pulled as the machine pulls it: the stream and the edges made are then the machine's
 pub record PullIsPull : Type 0 where
-  pub did : (c : Collecting) (s : State) (thread : ℕ) (lane : Lane) (note : Note) → Offers c s thread lane note → (step s (Pull thread)).did ≡ Pulled (accepted_as note.place note.body)
-  pub stream : (c : Collecting) (s : State) (thread : ℕ) (input : Pulling) (lane : Lane) (note : Note) → Offers c s thread lane note
+  pub did : (c : Collecting) (s : State) (thread : ℕ) (lane : Lane) (note : Note)
+      → Offers c s thread lane note
+      → (step s (Pull thread)).did ≡ Pulled (accepted_as note.place note.body)
+  pub stream : (c : Collecting) (s : State) (thread : ℕ) (input : Pulling) (lane : Lane)
+      (note : Note) → Offers c s thread lane note
       → (step s (Pull thread)).after.stream ≡ (with_pulled thread (side_of c input) note).stream
-  pub made : (c : Collecting) (s : State) (thread : ℕ) (input : Pulling) (lane : Lane) (note : Note) → Offers c s thread lane note
-      → (step s (Pull thread)).after.dispatch.made ≡ (with_pulled thread (side_of c input) note).made
+  pub made : (c : Collecting) (s : State) (thread : ℕ) (input : Pulling) (lane : Lane) (note : Note)
+      → Offers c s thread lane note
+      → (step s (Pull thread)).after.dispatch.made
+      ≡ (with_pulled thread (side_of c input) note).made
   -- and no lane breaks
-  pub next : (c : Collecting) (s : State) (thread : ℕ) (lane : Lane) (note : Note) → Offers c s thread lane note → IsNext c.limits c.stream (as_of thread note)
+  pub next : (c : Collecting) (s : State) (thread : ℕ) (lane : Lane) (note : Note)
+      → Offers c s thread lane note → IsNext c.limits c.stream (as_of thread note)

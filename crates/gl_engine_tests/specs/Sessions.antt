@@ -22,19 +22,25 @@ left_by r = record { session = r.session; thread = r.thread; limits = r.limits; 
 
 -- the receipt is that of the thread's recorder in a session of this number, limits and lanes, or another session's
 abbrev pub IsOurs : ℕ → Bounds → List LaneId → Closed → Type 0
-IsOurs session limits lanes r = r.session ≡ session → (lane : LaneId) → slice_get lanes r.thread ≡ Some lane → (r.lane ≡ lane) × (r.limits ≡ limits)
+IsOurs session limits lanes r =
+    r.session ≡ session → (lane : LaneId) → slice_get lanes r.thread ≡ Some lane
+    → (r.lane ≡ lane) × (r.limits ≡ limits)
 
 -- each receipt is that of a thread's recorder in the collector's session, or another session's
 abbrev pub AreOursOf : Collecting → List Closed → Type 0
-AreOursOf c receipts = (at : ℕ) (r : Closed) → slice_get receipts at ≡ Some r → IsOurs c.session c.limits (lanes_of c) r
+AreOursOf c receipts =
+    (at : ℕ) (r : Closed) → slice_get receipts at ≡ Some r
+    → IsOurs c.session c.limits (lanes_of c) r
 
 -- a session of this number that has run: it can be settled with the receipts, and with those put aside, and where there is somebody to serve
 -- the feeds, these are all that was sent
-pub record IsSession (number : ℕ) (g : Gathering) (receipts aside : List Closed) (inlets : List Receiving) (served : Bool) : Type 0 where
+pub record IsSession (number : ℕ) (g : Gathering) (receipts aside : List Closed)
+    (inlets : List Receiving) (served : Bool) : Type 0 where
   pub numbered : g.session ≡ number
   pub ours : AreOurs g receipts
   pub ours_aside : AreOurs g aside
-  pub feeds : served ≡ true → g.fault ≡ None → map (λ (s : AllSent). s.feed) g.sent ≡ map (λ (i : Receiving). i.feed) inlets
+  pub feeds : served ≡ true → g.fault ≡ None
+      → map (λ (s : AllSent). s.feed) g.sent ≡ map (λ (i : Receiving). i.feed) inlets
 
 -- a session of number 7 that is settled without a run, of so many threads: it can be settled with the receipts
 pub record IsUnrun (threads : ℕ) (c : Collecting) (receipts : List Closed) : Type 0 where

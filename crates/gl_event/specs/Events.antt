@@ -90,7 +90,8 @@ held es = ascending (filter (λ lock. nat_lt 0 (depth es lock)) (filter_map acqu
 
 -- the event at this place acquires the lock where its thread doesn't hold it
 abbrev pub opens : List Event → ℕ → ℕ → Bool
-opens es lock place = option_map_or (acquires lock) (slice_get es place) false && (depth (take place es) lock == 0)
+opens es lock place =
+    option_map_or (acquires lock) (slice_get es place) false && (depth (take place es) lock == 0)
 
 -- the greatest number below n that passes, or 0
 abbrev pub greatest_below : (ℕ → Bool) → ℕ → ℕ

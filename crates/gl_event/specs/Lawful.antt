@@ -1,5 +1,6 @@
 -- Which event may come next in a thread's list, and which lists are lawful.
-use Rattle.std.specs.Prelude.{◌≡◌, ℕ, Bool, true, false, List, Option, Some, None, length, take, slice_get, ◌==◌, nat_le, if◌then◌else◌}
+use Rattle.std.specs.Global.{Vec}
+use Rattle.std.specs.Prelude.{◌≡◌, ◌≤◌, ℕ, Bool, true, false, List, Option, Some, None, length, map, take, slice_get, ◌==◌, nat_le, if◌then◌else◌}
 use Rattle.std.specs.Option.{option_map_or}
 use Rattle.gl_event.specs.Bounds.{Bounds}
 use Rattle.gl_event.specs.Events.{depth, held, held_mode, partner}
@@ -42,8 +43,24 @@ refusal limits thread es e =
 
 -- each event of the list may come next after those before it
 pub record IsLawful (limits : Bounds) (thread : ℕ) (es : List Event) : Type 0 where
-  pub each : (place : ℕ) (e : Event) → slice_get es place ≡ Some e → refusal limits thread (take place es) e ≡ None
+  pub each : (place : ℕ) (e : Event) → slice_get es place ≡ Some e
+      → refusal limits thread (take place es) e ≡ None
 
 -- each event of the list is one that the locks allow after those before it
 pub record HasLawfulLocks (es : List Event) : Type 0 where
-  pub each : (place : ℕ) (e : Event) → slice_get es place ≡ Some e → lock_refusal (take place es) e ≡ None
+  pub each : (place : ℕ) (e : Event) → slice_get es place ≡ Some e
+      → lock_refusal (take place es) e ≡ None
+
+-- the lists that the vectors hold
+abbrev pub lists_of : List (Vec Event) → List (List Event)
+lists_of vecs = map (λ v. v.items) vecs
+
+-- each list is lawful for the thread whose number is its position
+abbrev pub EachIsLawful : Bounds → List (List Event) → Type 0
+EachIsLawful limits lists =
+    (thread : ℕ) (es : List Event) → slice_get lists thread ≡ Some es → IsLawful limits thread es
+
+-- there are no more lists than there may be threads, and each is lawful for the thread whose number is its position
+pub record AreLawful (limits : Bounds) (lists : List (List Event)) : Type 0 where
+  pub few : length lists ≤ limits.threads
+  pub each : EachIsLawful limits lists

@@ -51,7 +51,8 @@ as_refusal DepthFull = TooDeep
 as_refusal Upgrade = IsUpgrade
 
 -- what an acquire answers a thread whose events were these, and what it holds then
-pub record AnswersAcquire (es : List Event) (lock : ℕ) (mode : LockMode) (loc place seg : ℕ) (new : List HeldEntry) (answer : Result Bool HeldFault) : Type 0 where
+pub record AnswersAcquire (es : List Event) (lock : ℕ) (mode : LockMode) (loc place seg : ℕ)
+    (new : List HeldEntry) (answer : Result Bool HeldFault) : Type 0 where
   -- it is accepted exactly where it is lawful next
   pub accepted : IsOk answer ↔ (acquire_refusal es lock mode ≡ None)
   -- one lock too many
@@ -63,13 +64,16 @@ pub record AnswersAcquire (es : List Event) (lock : ℕ) (mode : LockMode) (loc 
   -- `true` says that the lock wasn't held
   pub outermost : IfOk answer (λ b. IsTrue b ↔ (depth es lock ≡ 0))
   -- what is held after the acquire; where the lock wasn't held, the place, the segment and the location given have to be its own
-  pub stands : OnOk answer ((e : Event) → IsAcquireOf lock mode e → (depth es lock ≡ 0 → IsAt es e place seg loc) → StandsFor (es ++ e ∷ []) new)
+  pub stands : OnOk answer ((e : Event) → IsAcquireOf lock mode e
+      → (depth es lock ≡ 0 → IsAt es e place seg loc) → StandsFor (es ++ e ∷ []) new)
 
 -- what a release answers a thread whose events were these, and what it holds then
-pub record AnswersRelease (es : List Event) (lock : ℕ) (new : List HeldEntry) (answer : Result Bool NotHeld) : Type 0 where
+pub record AnswersRelease (es : List Event) (lock : ℕ) (new : List HeldEntry)
+    (answer : Result Bool NotHeld) : Type 0 where
   -- it is accepted exactly where the lock is held
   pub accepted : IsOk answer ↔ (0 < depth es lock)
   -- `true` says that the lock is no longer held
   pub outermost : IfOk answer (λ b. IsTrue b ↔ (depth es lock ≡ 1))
   -- what is held after the release, wherever it stands
-  pub stands : OnOk answer ((mode : LockMode) (loc : ℕ) → StandsFor (es ++ Release mode lock loc ∷ []) new)
+  pub stands : OnOk answer
+      ((mode : LockMode) (loc : ℕ) → StandsFor (es ++ Release mode lock loc ∷ []) new)

@@ -43,4 +43,5 @@ pub record MayFollow (limits : Bounds) (thread : ℕ) (s : State) (event : Event
 
 -- this is known after the event where that was known before it
 abbrev pub HasFollowed : State → Event → State → Type 0
-HasFollowed before e after = (es : List Event) → StandsAfter es before → StandsAfter (es ++ e ∷ []) after
+HasFollowed before e after =
+    (es : List Event) → StandsAfter es before → StandsAfter (es ++ e ∷ []) after

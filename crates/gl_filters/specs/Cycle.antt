@@ -30,7 +30,8 @@ second_segment e = record { thread = e.thread; index = e.second }
 
 -- one edge is over before the other begins
 abbrev pub is_ordered : (Segment → Segment → Bool) → Edge → Edge → Bool
-is_ordered before e f = before (second_segment e) (first_segment f) || before (second_segment f) (first_segment e)
+is_ordered before e f =
+    before (second_segment e) (first_segment f) || before (second_segment f) (first_segment e)
 
 -- one edge leads on to another: it wants the lock that the other one holds, and not both as readers
 pub record LeadsOn (e f : Edge) : Type 0 where
@@ -50,13 +51,16 @@ abbrev pub AreApart : Edge → Edge → Type 0
 AreApart e f = (lock : ℕ) → ¬ HasGate e.guards f.guards lock
 
 -- a cycle of this mode of at most this many edges
-pub record IsCycle (before : Segment → Segment → Bool) (mode : Mode) (len : ℕ) (cycle : List Edge) : Type 0 where
+pub record IsCycle (before : Segment → Segment → Bool) (mode : Mode) (len : ℕ)
+    (cycle : List Edge) : Type 0 where
   -- it has two edges or more, and not too many
   pub two_or_more : 2 ≤ length cycle
   pub not_too_long : length cycle ≤ len
   -- each edge leads on to the next, and the last one to the first
-  pub leads_on : (i : ℕ) (e f : Edge) → slice_get cycle i ≡ Some e → slice_get cycle (i + 1) ≡ Some f → LeadsOn e f
-  pub leads_back : (e f : Edge) → slice_get cycle (length cycle - 1) ≡ Some e → slice_get cycle 0 ≡ Some f → LeadsOn e f
+  pub leads_on : (i : ℕ) (e f : Edge) → slice_get cycle i ≡ Some e
+      → slice_get cycle (i + 1) ≡ Some f → LeadsOn e f
+  pub leads_back : (e f : Edge) → slice_get cycle (length cycle - 1) ≡ Some e
+      → slice_get cycle 0 ≡ Some f → LeadsOn e f
   -- the held locks differ, and so do the threads
   pub locks_differ : AllPairs (λ e f. e.held ≢ f.held) cycle
   pub threads_differ : AllPairs (λ e f. e.thread ≢ f.thread) cycle

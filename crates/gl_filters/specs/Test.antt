@@ -20,20 +20,24 @@ leads_to e f = waits_for e.wanted e.wanted_mode f.held f.held_mode
 -- guards and order let the two edges stand in one cycle of this mode
 unfoldable pub is_clear : (Segment → Segment → Bool) → Mode → Edge → Edge → Bool
 is_clear before mode e f =
-    not (asks_guards mode && guards_clash e.guards f.guards) && not (asks_order mode && is_ordered before e f)
+    not (asks_guards mode && guards_clash e.guards f.guards)
+    && not (asks_order mode && is_ordered before e f)
 
 -- the two edges may stand in one cycle of this mode
 unfoldable pub goes_with : (Segment → Segment → Bool) → Mode → Edge → Edge → Bool
-goes_with before mode e f = (not (e.held == f.held) && not (e.thread == f.thread)) && is_clear before mode e f
+goes_with before mode e f =
+    (not (e.held == f.held) && not (e.thread == f.thread)) && is_clear before mode e f
 
 -- held locks and guards let edges of the kinds of these two stand in one cycle of this mode
 unfoldable pub kinds_go_together : Mode → Edge → Edge → Bool
-kinds_go_together mode e f = not (e.held == f.held) && not (asks_guards mode && guards_clash e.guards f.guards)
+kinds_go_together mode e f =
+    not (e.held == f.held) && not (asks_guards mode && guards_clash e.guards f.guards)
 
 -- each edge goes with each later one
 abbrev pub go_together : (Segment → Segment → Bool) → Mode → List Edge → Bool
 go_together before mode [] = true
-go_together before mode (e ∷ es) = list_all (goes_with before mode e) es && go_together before mode es
+go_together before mode (e ∷ es) =
+    list_all (goes_with before mode e) es && go_together before mode es
 
 -- each edge leads on to the next
 abbrev pub lead_on : List Edge → Bool
@@ -68,8 +72,10 @@ is_cycle before mode es = nat_le 2 (length es) && (is_path before mode es && lea
 unfoldable pub can_follow : (Segment → Segment → Bool) → Mode → List Edge → Edge → Bool
 can_follow before mode [] f = true
 can_follow before mode (e ∷ es) f =
-    leads_to (last_of e es) f && (list_all (λ d. goes_with before mode d f) (e ∷ es) && nat_le e.thread f.thread)
+    leads_to (last_of e es) f
+    && (list_all (λ d. goes_with before mode d f) (e ∷ es) && nat_le e.thread f.thread)
 
 -- the second edge may follow the first one in a cycle of this mode
 unfoldable pub is_compatible : (Segment → Segment → Bool) → Mode → Edge → Edge → Bool
-is_compatible before mode e f = (leads_to e f && not (e.thread == f.thread)) && is_clear before mode e f
+is_compatible before mode e f =
+    (leads_to e f && not (e.thread == f.thread)) && is_clear before mode e f

@@ -20,7 +20,9 @@ have_gate_lock e f = guards_clash e.guards f.guards
 
 -- the edge at place i clashes with none of those at the later places below n
 abbrev pub IsFree : (Edge → Edge → Bool) → List Edge → ℕ → ℕ → Type 0
-IsFree clash es i n = (j : ℕ) (e f : Edge) → i < j → j < n → slice_get es i ≡ Some e → slice_get es j ≡ Some f → clash e f ≡ false
+IsFree clash es i n =
+    (j : ℕ) (e f : Edge) → i < j → j < n → slice_get es i ≡ Some e → slice_get es j ≡ Some f
+    → clash e f ≡ false
 
 -- no two edges clash
 abbrev pub NoPair : (Edge → Edge → Bool) → List Edge → Type 0
@@ -38,7 +40,8 @@ pub record IsFirstAfter (clash : Edge → Edge → Bool) (es : List Edge) (i j :
 
 -- the edges at these places clash; the first place is the least that has a clash after it, and the second is the first clash after that
 abbrev pub IsFirstPair : (Edge → Edge → Bool) → List Edge → ℕ → ℕ → Type 0
-IsFirstPair clash es i j = IsFirstAfter clash es i j × ((k : ℕ) → k < i → IsFree clash es k (length es))
+IsFirstPair clash es i j =
+    IsFirstAfter clash es i j × ((k : ℕ) → k < i → IsFree clash es k (length es))
 
 -- the place after i, round
 abbrev pub following : ℕ → ℕ → ℕ
@@ -46,7 +49,9 @@ following n i = if i + 1 == n then 0 else i + 1
 
 -- the edge at place i leads on to the next one, round
 abbrev pub IsClosedAt : List Edge → ℕ → Type 0
-IsClosedAt es i = (e f : Edge) → slice_get es i ≡ Some e → slice_get es (following (length es) i) ≡ Some f → LeadsOn e f
+IsClosedAt es i =
+    (e f : Edge) → slice_get es i ≡ Some e → slice_get es (following (length es) i) ≡ Some f
+    → LeadsOn e f
 
 -- the edge at place i is the first that does not lead on to the next one
 pub record IsFirstOpen (es : List Edge) (i : ℕ) : Type 0 where
@@ -59,7 +64,8 @@ pub record IsFirstOpen (es : List Edge) (i : ℕ) : Type 0 where
 
 -- the edge at place i has no lesser thread than the first
 abbrev pub IsNotLesserAt : List Edge → ℕ → Type 0
-IsNotLesserAt es i = (e f : Edge) → slice_get es 0 ≡ Some e → slice_get es i ≡ Some f → e.thread ≤ f.thread
+IsNotLesserAt es i =
+    (e f : Edge) → slice_get es 0 ≡ Some e → slice_get es i ≡ Some f → e.thread ≤ f.thread
 
 -- the edge at place i is the first with a lesser thread than the first edge
 pub record IsFirstLesser (es : List Edge) (i : ℕ) : Type 0 where
@@ -73,7 +79,8 @@ pub record IsFirstLesser (es : List Edge) (i : ℕ) : Type 0 where
 -- the least lock that is a gate of the edges at both places
 abbrev pub IsLeastShared : List Edge → ℕ → ℕ → ℕ → Type 0
 IsLeastShared es i j lock = (e f : Edge) → slice_get es i ≡ Some e → slice_get es j ≡ Some f
-    → HasGate e.guards f.guards lock × ((other : ℕ) → HasGate e.guards f.guards other → lock ≤ other)
+    → HasGate e.guards f.guards lock
+    × ((other : ℕ) → HasGate e.guards f.guards other → lock ≤ other)
 
 module _ (before : Segment → Segment → Bool) (asked : Asked) (es : List Edge) where
   -- what holds where the tests before each one have passed
@@ -106,6 +113,9 @@ module _ (before : Segment → Segment → Bool) (asked : Asked) (es : List Edge
   IsVerdict (SameLock i j) = IsClosed × IsFirstPair hold_one_lock es i j
   IsVerdict (SameThread i j) = HasLocks × IsFirstPair are_of_one_thread es i j
   IsVerdict (NotLeast i) = HasThreads × IsFirstLesser es i
-  IsVerdict (SharedGuard i j lock) = IsLeast × (asks_guards asked.mode ≡ true) × IsFirstPair have_gate_lock es i j × IsLeastShared es i j lock
-  IsVerdict (Ordered i j) = IsApart × (asks_order asked.mode ≡ true) × IsFirstPair (is_ordered before) es i j
+  IsVerdict (SharedGuard i j lock) =
+      IsLeast × (asks_guards asked.mode ≡ true) × IsFirstPair have_gate_lock es i j
+      × IsLeastShared es i j lock
+  IsVerdict (Ordered i j) =
+      IsApart × (asks_order asked.mode ≡ true) × IsFirstPair (is_ordered before) es i j
   IsVerdict Valid = IsUnordered

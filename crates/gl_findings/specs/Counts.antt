@@ -16,5 +16,7 @@ abbrev pub counts_of : List (Edge × Sample) → Edge × Sample → ClassCounts
 counts_of table pair =
     record {
       threads = distinct_count nat_eq (map (λ p. p.0.thread) (class_edges table pair));
-      locks = distinct_count nat_eq (flat_map (λ p. p.0.held ∷ p.0.wanted ∷ []) (class_edges table pair));
+      locks =
+          distinct_count nat_eq
+          (flat_map (λ p. p.0.held ∷ p.0.wanted ∷ []) (class_edges table pair));
     }

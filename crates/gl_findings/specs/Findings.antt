@@ -32,16 +32,23 @@ turned k signature = drop k signature ++ take k signature
 
 -- the two are one signature, wherever each begins
 abbrev pub is_turn : List ℕ → List ℕ → Bool
-is_turn signature other = list_any (λ k. pointwise nat_eq (turned k signature) other) (range_with_len 0 (length signature))
+is_turn signature other =
+    list_any (λ k. pointwise nat_eq (turned k signature) other)
+    (range_with_len 0 (length signature))
 
 -- the signature begins where it is to be told from: told from any other place it is no less
 abbrev pub begins_least : List ℕ → Bool
-begins_least signature = list_all (λ k. is_le (slice_cmp nat_cmp signature (turned k signature))) (range_with_len 0 (length signature))
+begins_least signature =
+    list_all (λ k. is_le (slice_cmp nat_cmp signature (turned k signature)))
+    (range_with_len 0 (length signature))
 
-module _ (before : Segment → Segment → Bool) (mode : Mode) (len : ℕ) (table : List (Edge × Sample)) where
+module _ (before : Segment → Segment → Bool) (mode : Mode) (len : ℕ)
+    (table : List (Edge × Sample)) where
   -- the first cycle of a signature, where there is one
   abbrev pub first_with : List ℕ → List (List ℕ)
-  first_with signature = take 1 (filter (λ positions. is_turn signature (signature_of table positions)) (all_cycles before mode len (edges_of_table table)))
+  first_with signature =
+      take 1 (filter (λ positions. is_turn signature (signature_of table positions))
+      (all_cycles before mode len (edges_of_table table)))
 
   -- the findings: for each signature, in lexicographic order, the first of its cycles
   unfoldable pub findings : List (List ℕ)

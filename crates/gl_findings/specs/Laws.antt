@@ -23,12 +23,16 @@ pub record AreOneFinding (table : List (Edge × Sample)) (positions others : Lis
 abbrev pub NoneIsMissed : (Segment → Segment → Bool) → Mode → ℕ → List (Edge × Sample) → Type 0
 NoneIsMissed before mode len table =
     (positions : List ℕ) → Contains (all_cycles before mode len (edges_of_table table)) positions
-    → (shown : List ℕ) × Contains (findings before mode len table) shown × AreOneFinding table shown positions
+    → (shown : List ℕ) × Contains (findings before mode len table) shown
+    × AreOneFinding table shown positions
 
 -- what is shown is a cycle
 abbrev pub EachIsCycle : (Segment → Segment → Bool) → Mode → ℕ → List (Edge × Sample) → Type 0
-EachIsCycle before mode len table = (shown : List ℕ) → Contains (findings before mode len table) shown → Contains (all_cycles before mode len (edges_of_table table)) shown
+EachIsCycle before mode len table =
+    (shown : List ℕ) → Contains (findings before mode len table) shown
+    → Contains (all_cycles before mode len (edges_of_table table)) shown
 
 -- no two that are shown are one finding
 abbrev pub NoneIsTwice : (Segment → Segment → Bool) → Mode → ℕ → List (Edge × Sample) → Type 0
-NoneIsTwice before mode len table = AllPairs (λ one other. ¬ AreOneFinding table one other) (findings before mode len table)
+NoneIsTwice before mode len table =
+    AllPairs (λ one other. ¬ AreOneFinding table one other) (findings before mode len table)

@@ -31,7 +31,8 @@ listing_by Cycles = report_by
 listing_by Findings = findings_by
 
 -- the report that has these contents
-abbrev pub report_with : Contents → Asked → (Segment → Segment → Bool) → List (Edge × Sample) → Report
+abbrev pub report_with : Contents → Asked → (Segment → Segment → Bool) → List (Edge × Sample)
+    → Report
 report_with only.Cycles asked before pairs =
     untrimmed asked pairs (listed_cycles asked before pairs)
 report_with only.CyclesAndTrim asked before pairs = report_by asked before pairs
@@ -39,7 +40,8 @@ report_with only.Findings asked before pairs = findings_by asked before pairs
 
 -- this is the report over these edges that has these contents, by the order of these lists
 pub record IsReportWith
-    (contents : Contents) (asked : Asked) (pairs : List (Edge × Sample)) (lists : List (List Event)) (report : Report)
+    (contents : Contents) (asked : Asked) (pairs : List (Edge × Sample)) (lists : List (List Event))
+    (report : Report)
     : Type 0 where
   -- no segment of the lists is before itself
   pub consistent : IsConsistent lists

@@ -15,7 +15,8 @@ first_in_chain chain lock = get nat_eq chain.first lock
 
 -- the edges from position n on that are kept are in the index by their locks on this side
 abbrev pub AreChainedKept : Side → List Edge → List Bool → ℕ → Chain → Type 0
-AreChainedKept side edges kept n chain = AreListed (lock_towards side) edges kept n (first_in_chain chain) chain.next.items
+AreChainedKept side edges kept n chain =
+    AreListed (lock_towards side) edges kept n (first_in_chain chain) chain.next.items
 
 -- all edges from position n on are, where no flag leaves any out
 abbrev pub AreChained : Side → List Edge → ℕ → Chain → Type 0
@@ -39,15 +40,20 @@ first_of_locks closers locks = get same_locks closers.first locks
 
 -- the edges from position n on are in the index by the locks that they hold and want
 abbrev pub AreClosers : List Edge → List Bool → ℕ → Closers → Type 0
-AreClosers edges kept n closers = AreListed both_locks edges kept n (first_of_locks closers) closers.next.items
+AreClosers edges kept n closers =
+    AreListed both_locks edges kept n (first_of_locks closers) closers.next.items
 
 -- the index leads through the followers of each edge that are kept
 pub record IsIndexOf (edges : List Edge) (kept : List Bool) (index : Followers) : Type 0 where
   pub long : length index.first.items ≡ length edges
   pub as_long : length index.next.items ≡ length edges
   -- the first edge that holds the lock which an edge wants
-  pub begins : (i : ℕ) (e : Edge) (first : Option ℕ) → slice_get edges i ≡ Some e → slice_get index.first.items i ≡ Some first → IsNextWith held_lock edges kept e.wanted 0 first
+  pub begins : (i : ℕ) (e : Edge) (first : Option ℕ) → slice_get edges i ≡ Some e
+      → slice_get index.first.items i ≡ Some first
+      → IsNextWith held_lock edges kept e.wanted 0 first
   -- the next one that holds the same lock
-  pub goes_on : (i : ℕ) (e : Edge) (next : Option ℕ) → slice_get edges i ≡ Some e → slice_get index.next.items i ≡ Some next → IsNextWith held_lock edges kept e.held (i + 1) next
+  pub goes_on : (i : ℕ) (e : Edge) (next : Option ℕ) → slice_get edges i ≡ Some e
+      → slice_get index.next.items i ≡ Some next
+      → IsNextWith held_lock edges kept e.held (i + 1) next
   -- and those that close a path
   pub closers : AreClosers edges kept 0 index.closers

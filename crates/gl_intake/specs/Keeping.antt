@@ -10,18 +10,24 @@ use Rattle.gl_intake.specs.Stream.{events_of, has_ended, AreInOrder}
 use Rattle.gl_intake.specs.declared.intake.ThreadCursor.{ThreadCursor}
 
 -- there is one log for each thread, with the events of its notes
-pub record AreLogs (threads : ℕ) (stream : List Note) (logs : List (Vec Event Global)) : Type 0 where
+pub record AreLogs (threads : ℕ) (stream : List Note)
+    (logs : List (Vec Event Global)) : Type 0 where
   pub count : length logs ≡ threads
-  pub each : (thread : ℕ) (d : Vec Event Global) → thread < threads → (slice_index_or logs thread d).items ≡ events_of thread stream
+  pub each : (thread : ℕ) (d : Vec Event Global) → thread < threads
+      → (slice_index_or logs thread d).items ≡ events_of thread stream
 
 -- there is one cursor for each thread, which tracks the events of its notes and knows whether it has ended
-pub record AreCursors (limits : Bounds) (stream : List Note) (cursors : List ThreadCursor) : Type 0 where
+pub record AreCursors (limits : Bounds) (stream : List Note)
+    (cursors : List ThreadCursor) : Type 0 where
   pub count : length cursors ≡ limits.threads
-  pub tracks : (thread : ℕ) (d : ThreadCursor) → thread < limits.threads → Tracks limits thread (events_of thread stream) (slice_index_or cursors thread d).taker
-  pub ended : (thread : ℕ) (d : ThreadCursor) → thread < limits.threads → (slice_index_or cursors thread d).has_ended ≡ has_ended thread stream
+  pub tracks : (thread : ℕ) (d : ThreadCursor) → thread < limits.threads
+      → Tracks limits thread (events_of thread stream) (slice_index_or cursors thread d).taker
+  pub ended : (thread : ℕ) (d : ThreadCursor) → thread < limits.threads
+      → (slice_index_or cursors thread d).has_ended ≡ has_ended thread stream
 
 -- an intake's logs and cursors are those of its stream, which has each note in its order and no end mark of an unknown thread
-pub record IsKept (limits : Bounds) (stream : List Note) (logs : List (Vec Event Global)) (cursors : List ThreadCursor) : Type 0 where
+pub record IsKept (limits : Bounds) (stream : List Note) (logs : List (Vec Event Global))
+    (cursors : List ThreadCursor) : Type 0 where
   pub logs_are : AreLogs limits.threads stream logs
   pub cursors_are : AreCursors limits stream cursors
   pub no_stranger : (thread : ℕ) → limits.threads ≤ thread → has_ended thread stream ≡ false

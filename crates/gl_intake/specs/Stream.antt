@@ -53,12 +53,14 @@ pub record IsNext (limits : Bounds) (stream : List Note) (note : Note) : Type 0 
 
 -- each note of the stream is its thread's next one after the notes before it
 pub record AreInOrder (limits : Bounds) (stream : List Note) : Type 0 where
-  pub each : (place : ℕ) (note : Note) → slice_get stream place ≡ Some note → IsNext limits (take place stream) note
+  pub each : (place : ℕ) (note : Note) → slice_get stream place ≡ Some note
+      → IsNext limits (take place stream) note
 
 -- why a body may not come after these events of its thread
 abbrev pub body_refusal : Bounds → ℕ → List Event → Body → Option Refused
 body_refusal limits thread es (Happened e) = option_map Unlawful (refusal limits thread es e)
-body_refusal limits thread es (Ended count) = if count == length es then None else Some (WrongCount (length es) count)
+body_refusal limits thread es (Ended count) =
+    if count == length es then None else Some (WrongCount (length es) count)
 
 -- why a known thread's note may not come after these events of it, where `late` tells whether the thread has ended
 abbrev pub refusal_after : Bounds → List Event → Bool → Note → Option Refused
@@ -79,7 +81,8 @@ IsRefusal limits stream note why = note_refusal limits stream note ≡ Some why
 
 -- what a note that isn't accepted is answered: why it may not come next, or that there is no memory for one that may
 abbrev pub IsRefusedFor : Bounds → List Note → Note → Refused → Type 0
-IsRefusedFor limits stream note why = IsRefusal limits stream note why ⊎ ((note_refusal limits stream note ≡ None) × (why ≡ Memory))
+IsRefusedFor limits stream note why =
+    IsRefusal limits stream note why ⊎ ((note_refusal limits stream note ≡ None) × (why ≡ Memory))
 
 -- what an accepted note of this place and body is answered
 abbrev pub accepted_as : ℕ → Body → Accepted
@@ -108,8 +111,12 @@ spare_of collected thread = slice_index_or collected.spare thread 0
 
 -- a note has no refusal exactly where it is its thread's next one
 abbrev pub IsRefusedUnlessNext : Type 0
-IsRefusedUnlessNext = (limits : Bounds) (stream : List Note) (note : Note) → (note_refusal limits stream note ≡ None) ↔ IsNext limits stream note
+IsRefusedUnlessNext =
+    (limits : Bounds) (stream : List Note) (note : Note)
+    → (note_refusal limits stream note ≡ None) ↔ IsNext limits stream note
 
 -- no note is refused for want of memory where it may not come next
 abbrev pub IsNeverForMemory : Type 0
-IsNeverForMemory = (limits : Bounds) (stream : List Note) (note : Note) (why : Refused) → IsRefusal limits stream note why → why ≢ Memory
+IsNeverForMemory =
+    (limits : Bounds) (stream : List Note) (note : Note) (why : Refused)
+    → IsRefusal limits stream note why → why ≢ Memory

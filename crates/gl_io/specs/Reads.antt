@@ -6,7 +6,8 @@ use Rattle.gl_io.specs.declared.source.TheConstants.{CHUNK}
 
 -- in at most so many turns, each of which was one read of a chunk at most, the reads gave this text. They took the source from
 -- one position to the other
-pub record HasRead (turns : ℕ) (old new : Position) (failed : Bool) (text : List ℕ) (whole : Bool) : Type 0 where
+pub record HasRead (turns : ℕ) (old new : Position) (failed : Bool) (text : List ℕ)
+    (whole : Bool) : Type 0 where
   -- the text was taken off the front of what was left
   pub bytes : Consumes old.left new.left text
   -- a text that was read whole is all that was left; then the source is at its end, and no read has failed

@@ -28,7 +28,8 @@ pub record IsUnread (threads : ℕ) (now : Position) (failed : Bool) (items : St
 -- memory was refused, or the session isn't confirmed
 abbrev pub IsStreamFault : Stream → Trace → StreamFault → Type 0
 IsStreamFault items told (Text fault) = HasFault items fault
-IsStreamFault items told (Session (Inconsistent at ring)) = IsDone items × IsLeastInRing told.lists at ring.items
+IsStreamFault items told (Session (Inconsistent at ring)) =
+    IsDone items × IsLeastInRing told.lists at ring.items
 IsStreamFault items told (Session Memory) = Unit {0}
 IsStreamFault items told (Session Unconfirmed) = Unit {0}
 
@@ -41,11 +42,13 @@ FailsInTime old new items (Err (Session fault)) = (new ≡ old) ⊎ IsDone items
 
 -- the report of all that was told, with these contents, or why there is none
 abbrev pub IsReportOf : Contents → Asked → Stream → Trace → Result Report StreamFault → Type 0
-IsReportOf contents asked items told (Ok report) = IsDone items × IsReportWith contents asked (edges told.lists) told.lists report
+IsReportOf contents asked items told (Ok report) =
+    IsDone items × IsReportWith contents asked (edges told.lists) told.lists report
 IsReportOf contents asked items told (Err fault) = IsStreamFault items told fault
 
 -- the reads gave a text, and the items told a trace of it, of which this is the report
-pub record Becomes (contents : Contents) (asked : Asked) (limits : Bounds) (turns : ℕ) (input : SourceUse) (items : Stream) (result : Result Report StreamFault) : Type 0 where
+pub record Becomes (contents : Contents) (asked : Asked) (limits : Bounds) (turns : ℕ)
+    (input : SourceUse) (items : Stream) (result : Result Report StreamFault) : Type 0 where
   pub text : List ℕ
   pub told : Trace
   pub tells : HasTold limits turns input items text told

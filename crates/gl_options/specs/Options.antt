@@ -33,30 +33,43 @@ mode_rule = option_rule (codes "mode") (codes "full")
 
 -- whole numbers from 2 to 16
 abbrev pub len_rule : Rule
-len_rule = record (option_rule (codes "len") (codes "4")) { parser = Some (takes.Signed (pos 2) (pos 16)) }
+len_rule =
+    record (option_rule (codes "len") (codes "4")) { parser = Some (takes.Signed (pos 2) (pos 16)) }
 
 -- whole numbers from 1 to 100,000
 abbrev pub max_rule : Rule
-max_rule = record (option_rule (codes "max") (codes "1000")) { parser = Some (takes.Signed (pos 1) (pos 100000)) }
+max_rule =
+    record (option_rule (codes "max") (codes "1000"))
+    { parser = Some (takes.Signed (pos 1) (pos 100000)) }
 
 -- whole numbers from 1 to 16
 abbrev pub recorders_rule : Rule
-recorders_rule = record (option_rule (codes "recorders") (codes "4")) { parser = Some (takes.Signed (pos 1) (pos 16)) }
+recorders_rule =
+    record (option_rule (codes "recorders") (codes "4"))
+    { parser = Some (takes.Signed (pos 1) (pos 16)) }
 
 abbrev pub shards_rule : Rule
-shards_rule = record (option_rule (codes "shards") (codes "4")) { parser = Some (takes.Signed (pos 1) (pos 16)) }
+shards_rule =
+    record (option_rule (codes "shards") (codes "4"))
+    { parser = Some (takes.Signed (pos 1) (pos 16)) }
 
 -- whole numbers from 1 to 65,536
 abbrev pub ring_rule : Rule
-ring_rule = record (option_rule (codes "ring") (codes "256")) { parser = Some (takes.Signed (pos 1) (pos 65536)) }
+ring_rule =
+    record (option_rule (codes "ring") (codes "256"))
+    { parser = Some (takes.Signed (pos 1) (pos 65536)) }
 
 -- whole numbers from 1 to 1,024
 abbrev pub threads_rule : Rule
-threads_rule = record (option_rule (codes "threads") (codes "64")) { parser = Some (takes.Signed (pos 1) (pos 1024)) }
+threads_rule =
+    record (option_rule (codes "threads") (codes "64"))
+    { parser = Some (takes.Signed (pos 1) (pos 1024)) }
 
 -- whole numbers from 0 to 64
 abbrev pub jobs_rule : Rule
-jobs_rule = record (option_rule (codes "jobs") (codes "0")) { parser = Some (takes.Signed (pos 0) (pos 64)) }
+jobs_rule =
+    record (option_rule (codes "jobs") (codes "0"))
+    { parser = Some (takes.Signed (pos 0) (pos 64)) }
 
 -- a flag
 abbrev pub flag_rule : Text → Rule
@@ -85,7 +98,9 @@ predict = with_rule (report_app (codes "predict")) jobs_rule
 
 -- the command of a session that reads first, with the numbers of its recorder threads, of its shards, and of the notes in a ring
 abbrev pub session_app : App
-session_app = with_rule (with_rule (with_rule (report_app (codes "live")) recorders_rule) shards_rule) ring_rule
+session_app =
+    with_rule (with_rule (with_rule (report_app (codes "live")) recorders_rule) shards_rule)
+    ring_rule
 
 -- the command that predicts by a session, with whether it records as the text comes, and then how many threads this may name; with how
 -- many threads read the trace
@@ -117,7 +132,10 @@ program = record {
 
 -- with its commands
 abbrev pub goodlock : App
-goodlock = with_subcommand (with_subcommand (with_subcommand (with_subcommand (with_subcommand program predict.top) live.top) stats.top) replay.top) check.top
+goodlock =
+    with_subcommand (with_subcommand
+    (with_subcommand (with_subcommand (with_subcommand program predict.top) live.top) stats.top)
+    replay.top) check.top
 
 -- ---- what words ask for
 
@@ -179,7 +197,9 @@ IsCommand name rows (Predict query form jobs) = (name ≡ codes "predict")
 IsCommand name rows (Findings query form jobs) = (name ≡ codes "predict")
     × IsFlagIn rows (codes "findings") true × AsksIn rows query × IsFormIn rows form
     × IsJobsIn rows jobs
-IsCommand name rows (Live options) = (name ≡ codes "live") × AsksIn rows options.query × IsFormIn rows options.form × AsksForSession rows options
+IsCommand name rows (Live options) =
+    (name ≡ codes "live") × AsksIn rows options.query × IsFormIn rows options.form
+    × AsksForSession rows options
 IsCommand name rows (Stats query jobs) = (name ≡ codes "stats")
     × AsksIn rows query × IsJobsIn rows jobs
 IsCommand name rows (Replay jobs) = (name ≡ codes "replay") × IsJobsIn rows jobs
@@ -228,7 +248,9 @@ NamesModes other = ⊤
 
 -- a text is shown where the words ask for help or the version; they are refused where they hold a mistake, or a value that no option takes
 abbrev pub IsUsageOf : List Text → Usage → Type 0
-IsUsageOf words (Shown text) = (found : ErrorKind) × IsAmong found (fault_of goodlock words) × (shows found ≡ true)
+IsUsageOf words (Shown text) =
+    (found : ErrorKind) × IsAmong found (fault_of goodlock words) × (shows found ≡ true)
 IsUsageOf words (Refused text) = ((c : Command) → Asks words c → ⊥)
-    × ((fault_of goodlock words ≡ []) ⊎ ((found : ErrorKind) × IsAmong found (fault_of goodlock words) × (shows found ≡ false)))
+    × ((fault_of goodlock words ≡ [])
+    ⊎ ((found : ErrorKind) × IsAmong found (fault_of goodlock words) × (shows found ≡ false)))
 IsUsageOf words Memory = ⊤

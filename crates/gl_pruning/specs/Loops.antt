@@ -18,7 +18,8 @@ pub record KeepsLoops (edges : List Edge) (kept : List Bool) : Type 0 where
   -- there is a flag for each edge
   pub long : length kept ≡ length edges
   -- and what it leaves out is on no loop
-  pub left_out : (i : ℕ) (e : Edge) → slice_get edges i ≡ Some e → slice_get kept i ≡ Some false → IsOffLoops edges e
+  pub left_out : (i : ℕ) (e : Edge) → slice_get edges i ≡ Some e → slice_get kept i ≡ Some false
+      → IsOffLoops edges e
 
 -- ranks of locks that never fall along an edge: a certificate that an edge along which the rank rises is in no cycle
 abbrev pub IsNeverFalling : (ℕ → ℕ) → List Edge → Type 0

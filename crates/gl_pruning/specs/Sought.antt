@@ -7,4 +7,6 @@ use Rattle.gl_pruning.specs.OffCycles.{KeepsCycles}
 
 -- they leave out only edges that are in no cycle that is sought
 abbrev pub KeepsSought : Sought → List Bool → Type 0
-KeepsSought sought kept = KeepsCycles (is_before sought.order.now) sought.mode sought.len (edges_of_table sought.table.now) kept
+KeepsSought sought kept =
+    KeepsCycles (is_before sought.order.now) sought.mode sought.len
+    (edges_of_table sought.table.now) kept

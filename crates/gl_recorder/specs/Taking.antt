@@ -25,7 +25,9 @@ pub record Tracks (limits : Bounds) (thread : ℕ) (es : List Event) (t : Taking
 
 -- this holds of each list of events that the recorder may have taken, with its thread and limits
 abbrev pub ForEachTracked : Taking → (Bounds → ℕ → List Event → Type 0) → Type 0
-ForEachTracked t P = (limits : Bounds) (thread : ℕ) (es : List Event) → Tracks limits thread es t → P limits thread es
+ForEachTracked t P =
+    (limits : Bounds) (thread : ℕ) (es : List Event) → Tracks limits thread es t
+    → P limits thread es
 
 -- the note of an event that comes after these
 abbrev pub event_note : ℕ → List Event → Event → Note
@@ -37,7 +39,8 @@ end_note thread count = record { thread = thread; place = count; body = Ended co
 
 -- what the thread's recorder answers an event after these: its note, or the first reason why it may not come next
 abbrev pub answer_to : Bounds → ℕ → List Event → Event → Result Note Refusal
-answer_to limits thread es e = option_map_or Err (refusal limits thread es e) (Ok (event_note thread es e))
+answer_to limits thread es e =
+    option_map_or Err (refusal limits thread es e) (Ok (event_note thread es e))
 
 -- why a thread can't fork or join the other one
 abbrev pub partner_refusal : Bounds → ℕ → ℕ → Option Refusal
@@ -48,4 +51,5 @@ partner_refusal limits thread other =
 -- there are no more lists than there may be threads, and each is lawful for the thread whose number is its position
 pub record AreLawful (limits : Bounds) (lists : List (List Event)) : Type 0 where
   pub few : length lists ≤ limits.threads
-  pub each : (thread : ℕ) (es : List Event) → slice_get lists thread ≡ Some es → IsLawful limits thread es
+  pub each : (thread : ℕ) (es : List Event) → slice_get lists thread ≡ Some es
+      → IsLawful limits thread es

@@ -20,17 +20,23 @@ pub data Tale : Type 0 where
 
 -- the tale of an event: each number of a lock or of a location gives way to its name
 abbrev pub told : NameLists → Event → Tale
-told names (Acquire mode lock loc) = Acquires (name_at names.locks lock) mode (name_at names.locs loc)
-told names (Release mode lock loc) = Releases (name_at names.locks lock) mode (name_at names.locs loc)
-told names (TryAcquire mode lock loc) = TryAcquires (name_at names.locks lock) mode (name_at names.locs loc)
+told names (Acquire mode lock loc) =
+    Acquires (name_at names.locks lock) mode (name_at names.locs loc)
+told names (Release mode lock loc) =
+    Releases (name_at names.locks lock) mode (name_at names.locs loc)
+told names (TryAcquire mode lock loc) =
+    TryAcquires (name_at names.locks lock) mode (name_at names.locs loc)
 told names (Fork thread loc) = Forks thread (name_at names.locs loc)
 told names (Join thread loc) = Joins thread (name_at names.locs loc)
 
 -- the event of a tale: each name of a lock or of a location gives way to its number
 abbrev pub event_by : NameLists → Tale → Event
-event_by names (Acquires lock mode location) = Acquire mode (number_of names.locks lock) (number_of names.locs location)
-event_by names (Releases lock mode location) = Release mode (number_of names.locks lock) (number_of names.locs location)
-event_by names (TryAcquires lock mode location) = TryAcquire mode (number_of names.locks lock) (number_of names.locs location)
+event_by names (Acquires lock mode location) =
+    Acquire mode (number_of names.locks lock) (number_of names.locs location)
+event_by names (Releases lock mode location) =
+    Release mode (number_of names.locks lock) (number_of names.locs location)
+event_by names (TryAcquires lock mode location) =
+    TryAcquire mode (number_of names.locks lock) (number_of names.locs location)
 event_by names (Forks thread location) = Fork thread (number_of names.locs location)
 event_by names (Joins thread location) = Join thread (number_of names.locs location)
 
@@ -56,15 +62,21 @@ tales names lists = map (map (told names)) lists
 
 -- the names, and those that the tales mention, in the order of their first mention
 abbrev pub mentioned : NameLists → List Tale → NameLists
-mentioned names list = record names { locks = fold with_new names.locks (filter_map lock_in list); locs = fold with_new names.locs (map location_in list) }
+mentioned names list =
+    record names {
+      locks = fold with_new names.locks (filter_map lock_in list);
+      locs = fold with_new names.locs (map location_in list);
+    }
 
 -- the names of the same threads, and of locks and locations by first mention, one thread's list after the other
 abbrev pub names_by_mention : NameLists → List (List Event) → NameLists
-names_by_mention names lists = mentioned (record names { locks = []; locs = [] }) (flat_map (λ list. list) (tales names lists))
+names_by_mention names lists =
+    mentioned (record names { locks = []; locs = [] }) (flat_map (λ list. list) (tales names lists))
 
 -- the lists that tell the same by these names
 abbrev pub lists_by_mention : NameLists → List (List Event) → List (List Event)
-lists_by_mention names lists = map (map (event_by (names_by_mention names lists))) (tales names lists)
+lists_by_mention names lists =
+    map (map (event_by (names_by_mention names lists))) (tales names lists)
 
 -- this is the number of a name
 abbrev pub is_named : List (List ℕ) → ℕ → Bool
@@ -84,7 +96,8 @@ have_names names lists = list_all (list_all (has_names names)) lists
 
 -- each thread's list is lawful
 abbrev pub AreLawful : Bounds → List (List Event) → Type 0
-AreLawful limits lists = (thread : ℕ) (es : List Event) → slice_get lists thread ≡ Some es → IsLawful limits thread es
+AreLawful limits lists =
+    (thread : ℕ) (es : List Event) → slice_get lists thread ≡ Some es → IsLawful limits thread es
 
 -- where the old lists are lawful, under whichever limits, so are the new ones
 abbrev pub StayLawful : List (List Event) → List (List Event) → Type 0
@@ -92,12 +105,14 @@ StayLawful old new = (limits : Bounds) → AreLawful limits old → AreLawful li
 
 -- two lots of lists tell the same, of the same threads
 abbrev pub TellTheSame : NameLists → List (List Event) → NameLists → List (List Event) → Type 0
-TellTheSame names lists others other_lists = (names.threads ≡ others.threads) × (tales names lists ≡ tales others other_lists)
+TellTheSame names lists others other_lists =
+    (names.threads ≡ others.threads) × (tales names lists ≡ tales others other_lists)
 
 -- lists that tell the same are the same by mention, and so are their names
 abbrev pub SameTalesSameLists : Type 0
 SameTalesSameLists =
-    (names others : NameLists) (lists other_lists : List (List Event)) → TellTheSame names lists others other_lists
+    (names others : NameLists) (lists other_lists : List (List Event))
+    → TellTheSame names lists others other_lists
     → (names_by_mention names lists ≡ names_by_mention others other_lists)
     × (lists_by_mention names lists ≡ lists_by_mention others other_lists)
 

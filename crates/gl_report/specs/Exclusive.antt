@@ -14,8 +14,13 @@ is_exclusive_mode Shared = false
 
 -- the edge is of exclusive locks alone
 abbrev pub is_exclusive : Edge → Bool
-is_exclusive e = is_exclusive_mode e.held_mode && (is_exclusive_mode e.wanted_mode && list_all (λ guard. is_exclusive_mode guard.mode) e.guards)
+is_exclusive e =
+    is_exclusive_mode e.held_mode
+    && (is_exclusive_mode e.wanted_mode
+    && list_all (λ guard. is_exclusive_mode guard.mode) e.guards)
 
 -- so is each edge of each listed cycle
 abbrev pub ListsExclusive : Report → Type 0
-ListsExclusive report = All (λ cycle. All (λ edge. is_exclusive edge ≡ true) (picked (edges_of_table report.edges) cycle)) report.found.cycles
+ListsExclusive report =
+    All (λ cycle. All (λ edge. is_exclusive edge ≡ true)
+    (picked (edges_of_table report.edges) cycle)) report.found.cycles

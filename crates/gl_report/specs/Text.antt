@@ -32,7 +32,9 @@ edge_line names pair = held_text names pair ++ wanted_text names pair
 
 -- how many threads made the edges of a class, and how many locks they hold or want
 abbrev pub counts_line : ClassCounts → List ℕ
-counts_line counts = codes "    threads: " ++ decimal counts.threads ++ codes ", locks: " ++ decimal counts.locks ++ codes "\n"
+counts_line counts =
+    codes "    threads: " ++ decimal counts.threads ++ codes ", locks: " ++ decimal counts.locks
+    ++ codes "\n"
 
 -- one edge of what is listed: of a finding with the counts of its class
 abbrev pub edge_text : Listing → NameLists → List (Edge × Sample) → Edge × Sample → List ℕ
@@ -50,24 +52,31 @@ all_word Findings = codes "findings: "
 
 -- the line that begins a cycle
 abbrev pub cycle_line : Listing → ℕ → ℕ → List ℕ
-cycle_line listing number size = one_word listing ++ decimal number ++ codes ": " ++ decimal size ++ codes " edges\n"
+cycle_line listing number size =
+    one_word listing ++ decimal number ++ codes ": " ++ decimal size ++ codes " edges\n"
 
 -- a cycle with its edges
 abbrev pub cycle_text : Listing → NameLists → List (Edge × Sample) → ℕ → List ℕ → List ℕ
-cycle_text listing names table number cycle = cycle_line listing number (length cycle) ++ flat_map (edge_text listing names table) (filter_map (slice_get table) cycle)
+cycle_text listing names table number cycle =
+    cycle_line listing number (length cycle)
+    ++ flat_map (edge_text listing names table) (filter_map (slice_get table) cycle)
 
 -- cycles, of which the first has this number
 abbrev pub cycles_text : Listing → NameLists → List (Edge × Sample) → ℕ → List (List ℕ) → List ℕ
 cycles_text listing names table number [] = []
-cycles_text listing names table number (cycle ∷ cycles) = cycle_text listing names table number cycle ++ cycles_text listing names table (number + 1) cycles
+cycles_text listing names table number (cycle ∷ cycles) =
+    cycle_text listing names table number cycle
+    ++ cycles_text listing names table (number + 1) cycles
 
 -- the last line: how many are listed, and whether there are more
 abbrev pub last_line : Listing → ℕ → Bool → List ℕ
-last_line listing count more = all_word listing ++ decimal count ++ (if more then codes " (more)" else []) ++ codes "\n"
+last_line listing count more =
+    all_word listing ++ decimal count ++ (if more then codes " (more)" else []) ++ codes "\n"
 
 -- the whole list
 abbrev pub listing_text : Listing → NameLists → List (Edge × Sample) → List (List ℕ) → Bool → List ℕ
-listing_text listing names table cycles more = cycles_text listing names table 1 cycles ++ last_line listing (length cycles) more
+listing_text listing names table cycles more =
+    cycles_text listing names table 1 cycles ++ last_line listing (length cycles) more
 
 -- the report: its cycles
 abbrev pub report_text : NameLists → List (Edge × Sample) → List (List ℕ) → Bool → List ℕ

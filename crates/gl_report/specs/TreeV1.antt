@@ -24,12 +24,14 @@ edge_tree_v1 names pair =
 
 -- a cycle: its edges in order
 unfoldable pub cycle_tree_v1 : NameLists → List (Edge × Sample) → List ℕ → Data
-cycle_tree_v1 names table cycle = array (items_of (map (edge_tree_v1 names) (filter_map (slice_get table) cycle)))
+cycle_tree_v1 names table cycle =
+    array (items_of (map (edge_tree_v1 names) (filter_map (slice_get table) cycle)))
 
 -- the whole report
 unfoldable pub report_tree_v1 : NameLists → Report → Data
 report_tree_v1 names report =
-    object (member (codes "cycles") (array (items_of (map (cycle_tree_v1 names report.edges) report.found.cycles)))
+    object (member (codes "cycles")
+    (array (items_of (map (cycle_tree_v1 names report.edges) report.found.cycles)))
     (member (codes "format") (number (unsigned 1))
     (member (codes "len") (number (unsigned report.query.len))
     (member (codes "max") (number (unsigned report.query.max))

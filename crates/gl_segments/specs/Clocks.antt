@@ -10,7 +10,8 @@ Clocks = List (List (List ℕ))
 
 -- how many segments of this thread are before the segment: none, where the thread or the segment isn't known
 abbrev pub ahead : Clocks → Segment → ℕ → ℕ
-ahead clocks s thread = slice_index_or (slice_index_or (slice_index_or clocks s.thread []) s.index []) thread 0
+ahead clocks s thread =
+    slice_index_or (slice_index_or (slice_index_or clocks s.thread []) s.index []) thread 0
 
 -- the clocks say that a is before b
 abbrev pub is_before : Clocks → Segment → Segment → Bool
@@ -22,4 +23,5 @@ OrdersBy lists clocks = (a b : Segment) → IsTrue (is_before clocks a b) ↔ Be
 
 -- so many segments of the thread are before this one: its first ones are, and no others
 abbrev pub CountsBefore : List (List Event) → Segment → ℕ → ℕ → Type 0
-CountsBefore lists a thread n = (i : ℕ) → (i < n) ↔ Before lists (record { thread = thread; index = i }) a
+CountsBefore lists a thread n =
+    (i : ℕ) → (i < n) ↔ Before lists (record { thread = thread; index = i }) a

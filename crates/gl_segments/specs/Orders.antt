@@ -18,7 +18,8 @@ pub record AreLawful (lists : List (List Event)) : Type 0 where
   -- at most 1,024
   pub few : length lists ≤ MAX_THREADS
   -- each is lawful
-  pub each : (thread : ℕ) (es : List Event) → slice_get lists thread ≡ Some es → IsLawful greatest thread es
+  pub each : (thread : ℕ) (es : List Event) → slice_get lists thread ≡ Some es
+      → IsLawful greatest thread es
 
 -- the fault is one of these lists: out of memory may come at any time
 abbrev pub IsFaultOf : List (List Event) → OrderFault → Type 0

@@ -88,7 +88,8 @@ abbrev pub IsBelow : Segment → Segment → Type 0
 IsBelow a b = (a.thread < b.thread) ⊎ ((a.thread ≡ b.thread) × (a.index < b.index))
 
 -- `at` is the least segment that is before itself, and the ring begins with it
-pub record IsLeastInRing (lists : List (List Event)) (at : Segment) (ring : List Segment) : Type 0 where
+pub record IsLeastInRing (lists : List (List Event)) (at : Segment)
+    (ring : List Segment) : Type 0 where
   -- the ring begins with it
   pub begins : slice_get ring 0 ≡ Some at
   -- the ring is one

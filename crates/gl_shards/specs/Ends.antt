@@ -22,34 +22,40 @@ Channel Q M L A = Rows (Badge (Key Message)) (Doing Message Traffic) Q M (Key Me
 
 module _ {Q M L A B : Type 0} where
   -- a pass of this sender's channel, which sends
-  pub record IsSender (sender : Sending (Channel Q M L A) B) (pass : Pass Message Traffic) : Type 0 where
+  pub record IsSender (sender : Sending (Channel Q M L A) B)
+      (pass : Pass Message Traffic) : Type 0 where
     pub seat : IsSeatAt (sends_on sender) pass
     pub sends : (view pass).sends ≡ true
 
   -- the same, and the end mark was sent
-  pub record HasSent (sender : Sending (Channel Q M L A) B) (pass : Pass Message Traffic) : Type 0 where
+  pub record HasSent (sender : Sending (Channel Q M L A) B)
+      (pass : Pass Message Traffic) : Type 0 where
     pub is_sender : IsSender sender pass
     pub ended : HasEnded (view pass).sent
 
   -- the same, and the end mark wasn't sent yet
-  pub record IsOpen (sender : Sending (Channel Q M L A) B) (pass : Pass Message Traffic) : Type 0 where
+  pub record IsOpen (sender : Sending (Channel Q M L A) B)
+      (pass : Pass Message Traffic) : Type 0 where
     pub is_sender : IsSender sender pass
     pub not_ended : ¬ HasEnded (view pass).sent
 
   -- a pass of this receiver's channel, which receives, and has received nothing yet
-  pub record IsFresh (receiver : Receiving (Channel Q M L A) B) (pass : Pass Message Traffic) : Type 0 where
+  pub record IsFresh (receiver : Receiving (Channel Q M L A) B)
+      (pass : Pass Message Traffic) : Type 0 where
     pub seat : IsSeatAt (receives_on receiver) pass
     pub knows : view pass ≡ traffic false true [] []
 
   -- the same, and the table, if there was memory for it, has what was received, of which none is the end mark
-  pub record IsServing (receiver : Receiving (Channel Q M L A) B) (pass : Pass Message Traffic) (table : Option (List (Edge × Sample))) : Type 0 where
+  pub record IsServing (receiver : Receiving (Channel Q M L A) B) (pass : Pass Message Traffic)
+      (table : Option (List (Edge × Sample))) : Type 0 where
     pub seat : IsSeatAt (receives_on receiver) pass
     pub receives : (view pass).receives ≡ true
     pub not_ended : ¬ HasEnded (view pass).received
     pub filled : IfSome table (λ filled. filled ≡ once (received_by pass))
 
 -- a worker's pass when it is done, with what it has made of the edges
-pub record HasServed (pass : Pass Message Traffic) (cut : Bool) (table : Option (List (Edge × Sample))) : Type 0 where
+pub record HasServed (pass : Pass Message Traffic) (cut : Bool)
+    (table : Option (List (Edge × Sample))) : Type 0 where
   -- the pass keeps no place of the channel
   pub free : pass.me.1 ≡ []
   pub receives : (view pass).receives ≡ true

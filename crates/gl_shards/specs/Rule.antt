@@ -23,18 +23,22 @@ abbrev pub HasEnded : List Message → Type 0
 HasEnded messages = Contains messages Ended
 
 abbrev pub traffic : Bool → Bool → List Message → List Message → Traffic
-traffic sends receives sent received = record { sends = sends; receives = receives; sent = sent; received = received }
+traffic sends receives sent received =
+    record { sends = sends; receives = receives; sent = sent; received = received }
 
 -- what a pass knows that has sent a message more
 abbrev pub and_sent : Traffic → Message → Traffic
-and_sent known message = traffic known.sends known.receives (known.sent ++ message ∷ []) known.received
+and_sent known message =
+    traffic known.sends known.receives (known.sent ++ message ∷ []) known.received
 
 -- what a pass knows that has received a message more
 abbrev pub and_got : Traffic → Message → Traffic
-and_got known message = traffic known.sends known.receives known.sent (known.received ++ message ∷ [])
+and_got known message =
+    traffic known.sends known.receives known.sent (known.received ++ message ∷ [])
 
 -- a pass that may send is this sender, and knows what was sent; one that may receive is this receiver, and knows what was received
-pub record Fits (sender receiver : ℕ) (sent received : List Message) (pass : ℕ) (known : Traffic) : Type 0 where
+pub record Fits (sender receiver : ℕ) (sent received : List Message) (pass : ℕ)
+    (known : Traffic) : Type 0 where
   pub as_sender : known.sends ≡ true → (pass ≡ sender) × (known.sent ≡ sent)
   pub as_receiver : known.receives ≡ true → (pass ≡ receiver) × (known.received ≡ received)
 
@@ -51,7 +55,8 @@ pub record IsInOrder (messages : List Message) (passes : List Traffic) : Type 0 
   -- nothing follows an end mark
   pub ends_last : EndsLast sent
   -- one pass at most sends, and one receives
-  pub each : (pass : ℕ) (known : Traffic) → get_elem? passes pass ≡ some known → Fits sender receiver sent received pass known
+  pub each : (pass : ℕ) (known : Traffic) → get_elem? passes pass ≡ some known
+      → Fits sender receiver sent received pass known
 
 -- what who has both passes learns: what was received begins what was sent, and is all of it where the end mark was received
 pub record IsReceived (sent received messages : List Message) : Type 0 where

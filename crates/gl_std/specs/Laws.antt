@@ -22,12 +22,17 @@ use Rattle.gl_std.specs.declared.trace.Trace.{Trace}
 
 -- a text's trace obeys the limits: its lists are lawful, and whatever they speak of has one name
 abbrev pub TracesObeyLimits : Type 0
-TracesObeyLimits = (limits : Bounds) (text : List ℕ) (trace : Trace) → trace_of limits text ≡ Ok trace → IsTraceOver limits trace
+TracesObeyLimits =
+    (limits : Bounds) (text : List ℕ) (trace : Trace) → trace_of limits text ≡ Ok trace
+    → IsTraceOver limits trace
 
 -- a text is read piece by piece: what follows an LF goes on from the trace of what stands before it
 abbrev pub ReadingGoesOn : Type 0
 ReadingGoesOn =
-    (limits : Bounds) (front rest : List ℕ) → let before = front ++ LF ∷ [] in trace_of limits (front ++ LF ∷ rest) ≡ and_then (trace_of limits before) (λ told. read_from limits (1 + length (lines before)) told (lines rest))
+    (limits : Bounds) (front rest : List ℕ) → let before =
+    front ++ LF ∷ [] in trace_of limits (front ++ LF ∷ rest)
+    ≡ and_then (trace_of limits before)
+    (λ told. read_from limits (1 + length (lines before)) told (lines rest))
 
 -- xs begins with all of front
 abbrev pub IsFront : {X : Type 0} → List X → List X → Type 0
@@ -38,11 +43,15 @@ pub record Grows (old new : Trace) : Type 0 where
   pub threads : IsFront old.names.threads new.names.threads
   pub locks : IsFront old.names.locks new.names.locks
   pub locs : IsFront old.names.locs new.names.locs
-  pub lists : (thread : ℕ) (es : List Event) → slice_get old.lists thread ≡ Some es → (later : List Event) × (slice_get new.lists thread ≡ Some (es ++ later))
+  pub lists : (thread : ℕ) (es : List Event) → slice_get old.lists thread ≡ Some es
+      → (later : List Event) × (slice_get new.lists thread ≡ Some (es ++ later))
 
 -- more text tells more, and changes nothing of what the text before it told
 abbrev pub TracesGrow : Type 0
-TracesGrow = (limits : Bounds) (front rest : List ℕ) (old new : Trace) → trace_of limits (front ++ LF ∷ []) ≡ Ok old → trace_of limits (front ++ LF ∷ rest) ≡ Ok new → Grows old new
+TracesGrow =
+    (limits : Bounds) (front rest : List ℕ) (old new : Trace)
+    → trace_of limits (front ++ LF ∷ []) ≡ Ok old → trace_of limits (front ++ LF ∷ rest) ≡ Ok new
+    → Grows old new
 
 -- a line that is kept as an event: what it says, and the event
 pub record KeptLine : Type 0 where
@@ -86,7 +95,13 @@ kept_in told Other = []
 kept_in told (Call operation thread operand location) =
     let event = event_told told.names operation thread operand location in
     if is_stray (events_of told.lists (position (bytes_eq thread) told.names.threads)) event then []
-    else record { operation = operation; thread = thread; operand = operand; loc = location; event = event } ∷ []
+    else record {
+      operation = operation;
+      thread = thread;
+      operand = operand;
+      loc = location;
+      event = event;
+    } ∷ []
 
 -- the line tells of an operation that isn't watched
 abbrev pub is_other : Shape → Bool
@@ -111,7 +126,9 @@ if_told (Err fault) next = []
 abbrev pub kept_from : Bounds → ℕ → Trace → List (List ℕ) → List KeptLine
 kept_from limits number told [] = []
 kept_from limits number told (line ∷ rest) =
-    kept_in told (shape_of line) ++ if_told (after_line limits number told line) (λ more. kept_from limits (number + 1) more rest)
+    kept_in told (shape_of line)
+    ++ if_told (after_line limits number told line)
+    (λ more. kept_from limits (number + 1) more rest)
 
 -- each of these names once, in order of first mention
 abbrev pub first_mentions : List (List ℕ) → List (List ℕ)
@@ -125,39 +142,59 @@ pub record TellsLines (shapes : List Shape) (kept : List KeptLine) (trace : Trac
   pub locks : trace.names.locks ≡ first_mentions (flat_map locks_in kept)
   pub locs : trace.names.locs ≡ first_mentions (map (λ line. line.loc) kept)
   pub numbered : All (IsNumbered trace.names) kept
-  pub lists : (thread : List ℕ) → events_of trace.lists (position (bytes_eq thread) trace.names.threads) ≡ map (λ line. line.event) (filter (λ line. bytes_eq thread line.thread) kept)
+  pub lists : (thread : List ℕ)
+      → events_of trace.lists (position (bytes_eq thread) trace.names.threads)
+      ≡ map (λ line. line.event) (filter (λ line. bytes_eq thread line.thread) kept)
   pub skipped : trace.skipped ≡ count_by is_other shapes
   pub stray : length kept + trace.stray ≡ count_by is_call shapes
 
 -- the trace of a text tells the lines that are kept as events
 abbrev pub TracesTellLines : Type 0
-TracesTellLines = (limits : Bounds) (text : List ℕ) (trace : Trace) → trace_of limits text ≡ Ok trace → TellsLines (map shape_of (lines text)) (kept_from limits 1 nothing (lines text)) trace
+TracesTellLines =
+    (limits : Bounds) (text : List ℕ) (trace : Trace) → trace_of limits text ≡ Ok trace
+    → TellsLines (map shape_of (lines text)) (kept_from limits 1 nothing (lines text)) trace
 
 -- why the locks that are held after this trace don't allow the event of a call
 abbrev pub refusal_of_call : Trace → Operation → List ℕ → List ℕ → List ℕ → Option Refusal
 refusal_of_call told operation thread operand location =
-    lock_refusal (events_of told.lists (position (bytes_eq thread) told.names.threads)) (event_told told.names operation thread operand location)
+    lock_refusal (events_of told.lists (position (bytes_eq thread) told.names.threads))
+    (event_told told.names operation thread operand location)
 
 -- what the line says is at fault after this trace: the first reason that fits is one of the line alone, then one of the locks,
 -- then one of the limits, on threads, on events and on names in turn
 pub data IsFaultAfter (limits : Bounds) (told : Trace) : Shape → StdKind → Type 0 where
   alone : (kind : StdKind) → IsFaultAfter limits told (Bad kind) kind
-  held_full : (operation : Operation) (thread operand location : List ℕ) → refusal_of_call told operation thread operand location ≡ Some NoRoom → IsFaultAfter limits told (Call operation thread operand location) HeldFull
-  too_deep : (operation : Operation) (thread operand location : List ℕ) → refusal_of_call told operation thread operand location ≡ Some TooDeep → IsFaultAfter limits told (Call operation thread operand location) DepthFull
-  upgrade : (operation : Operation) (thread operand location : List ℕ) → refusal_of_call told operation thread operand location ≡ Some IsUpgrade → IsFaultAfter limits told (Call operation thread operand location) Upgrade
-  many_threads : (operation : Operation) (thread operand location : List ℕ) → refusal_of_call told operation thread operand location ≡ None
-      → limits.threads < length (names_after told.names operation thread operand location).threads → IsFaultAfter limits told (Call operation thread operand location) TooManyThreads
-  many_events : (operation : Operation) (thread operand location : List ℕ) → refusal_of_call told operation thread operand location ≡ None
+  held_full : (operation : Operation) (thread operand location : List ℕ)
+      → refusal_of_call told operation thread operand location ≡ Some NoRoom
+      → IsFaultAfter limits told (Call operation thread operand location) HeldFull
+  too_deep : (operation : Operation) (thread operand location : List ℕ)
+      → refusal_of_call told operation thread operand location ≡ Some TooDeep
+      → IsFaultAfter limits told (Call operation thread operand location) DepthFull
+  upgrade : (operation : Operation) (thread operand location : List ℕ)
+      → refusal_of_call told operation thread operand location ≡ Some IsUpgrade
+      → IsFaultAfter limits told (Call operation thread operand location) Upgrade
+  many_threads : (operation : Operation) (thread operand location : List ℕ)
+      → refusal_of_call told operation thread operand location ≡ None
+      → limits.threads < length (names_after told.names operation thread operand location).threads
+      → IsFaultAfter limits told (Call operation thread operand location) TooManyThreads
+  many_events : (operation : Operation) (thread operand location : List ℕ)
+      → refusal_of_call told operation thread operand location ≡ None
       → length (names_after told.names operation thread operand location).threads ≤ limits.threads
-      → limits.events ≤ length (events_of told.lists (position (bytes_eq thread) told.names.threads)) → IsFaultAfter limits told (Call operation thread operand location) TooManyEvents
-  many_names : (operation : Operation) (thread operand location : List ℕ) → refusal_of_call told operation thread operand location ≡ None
+      → limits.events ≤ length
+      (events_of told.lists (position (bytes_eq thread) told.names.threads))
+      → IsFaultAfter limits told (Call operation thread operand location) TooManyEvents
+  many_names : (operation : Operation) (thread operand location : List ℕ)
+      → refusal_of_call told operation thread operand location ≡ None
       → length (names_after told.names operation thread operand location).threads ≤ limits.threads
-      → length (events_of told.lists (position (bytes_eq thread) told.names.threads)) < limits.events
-      → (limits.names < length (names_after told.names operation thread operand location).locks) ⊎ (limits.names < length (names_after told.names operation thread operand location).locs)
+      → length (events_of told.lists (position (bytes_eq thread) told.names.threads))
+      < limits.events
+      → (limits.names < length (names_after told.names operation thread operand location).locks)
+      ⊎ (limits.names < length (names_after told.names operation thread operand location).locs)
       → IsFaultAfter limits told (Call operation thread operand location) TooManyNames
 
 -- the text's first line at fault is this one: the lines before it have a trace, after which it is at fault
-pub record IsFirstFault (limits : Bounds) (text : List ℕ) (number : ℕ) (kind : StdKind) : Type 0 where
+pub record IsFirstFault (limits : Bounds) (text : List ℕ) (number : ℕ)
+    (kind : StdKind) : Type 0 where
   pub front : List (List ℕ)
   pub line : List ℕ
   pub rest : List (List ℕ)
@@ -169,4 +206,6 @@ pub record IsFirstFault (limits : Bounds) (text : List ℕ) (number : ℕ) (kind
 
 -- a text that has a fault in place of a trace has it in the first line at fault
 abbrev pub FaultsComeFirst : Type 0
-FaultsComeFirst = (limits : Bounds) (text : List ℕ) (number : ℕ) (kind : StdKind) → trace_of limits text ≡ Err (Line number kind) → IsFirstFault limits text number kind
+FaultsComeFirst =
+    (limits : Bounds) (text : List ℕ) (number : ℕ) (kind : StdKind)
+    → trace_of limits text ≡ Err (Line number kind) → IsFirstFault limits text number kind

@@ -54,7 +54,8 @@ pub record HasGiven (turns : ℕ) (start now : Position) (left : ℕ) (text : Li
   pub within : length text ≤ used * CHUNK
 
 -- reading goes on: the reads gave this text, and its lines before what is left of the latest read told this trace
-pub record ReadsOn (limits : Bounds) (turns : ℕ) (start now : Position) (f : LineReader) (text : List ℕ) (told : Trace) : Type 0 where
+pub record ReadsOn (limits : Bounds) (turns : ℕ) (start now : Position) (f : LineReader)
+    (text : List ℕ) (told : Trace) : Type 0 where
   pub given : HasGiven turns start now f.turns text
   pub same : f.judge.limits ≡ limits
   pub at : IsAt f text told

@@ -47,13 +47,18 @@ EndsWithCR line = (front : List ℕ) × (line ≡ front ++ CR ∷ [])
 pub data HasLines : List ℕ → List (List ℕ) → Type 0 where
   no_line : HasLines [] []
   last_line : (line : List ℕ) → line ≢ [] → ¬ Contains line LF → HasLines line (line ∷ [])
-  ended_by_lf : (line rest : List ℕ) (ls : List (List ℕ)) → ¬ Contains line LF → ¬ EndsWithCR line → HasLines rest ls → HasLines (line ++ LF ∷ rest) (line ∷ ls)
-  ended_by_cr_lf : (line rest : List ℕ) (ls : List (List ℕ)) → ¬ Contains line LF → HasLines rest ls → HasLines (line ++ CR ∷ LF ∷ rest) (line ∷ ls)
+  ended_by_lf : (line rest : List ℕ) (ls : List (List ℕ)) → ¬ Contains line LF → ¬ EndsWithCR line
+      → HasLines rest ls → HasLines (line ++ LF ∷ rest) (line ∷ ls)
+  ended_by_cr_lf : (line rest : List ℕ) (ls : List (List ℕ)) → ¬ Contains line LF → HasLines rest ls
+      → HasLines (line ++ CR ∷ LF ∷ rest) (line ∷ ls)
 
 -- a text has one list of lines
 abbrev pub LinesAreUnique : Type 0
-LinesAreUnique = ((text : List ℕ) → HasLines text (lines text)) × ((text : List ℕ) (ls : List (List ℕ)) → HasLines text ls → ls ≡ lines text)
+LinesAreUnique =
+    ((text : List ℕ) → HasLines text (lines text))
+    × ((text : List ℕ) (ls : List (List ℕ)) → HasLines text ls → ls ≡ lines text)
 
 -- what follows an LF has lines of its own, whatever stands before it
 abbrev pub LinesFollowLines : Type 0
-LinesFollowLines = (front rest : List ℕ) → lines (front ++ LF ∷ rest) ≡ lines (front ++ LF ∷ []) ++ lines rest
+LinesFollowLines =
+    (front rest : List ℕ) → lines (front ++ LF ∷ rest) ≡ lines (front ++ LF ∷ []) ++ lines rest

@@ -17,7 +17,8 @@ number_of names name = unwrap_or (position (bytes_eq name) names) (length names)
 
 -- the names, with this one at the end where it is new
 abbrev pub with_new : List (List ℕ) → List ℕ → List (List ℕ)
-with_new names name = option_map_or (λ _. names) (position (bytes_eq name) names) (names ++ name ∷ [])
+with_new names name =
+    option_map_or (λ _. names) (position (bytes_eq name) names) (names ++ name ∷ [])
 
 -- the name is new, and there are as many names as there may be: no number is left
 abbrev pub HaveNoNumber : List (List ℕ) → List ℕ → Type 0

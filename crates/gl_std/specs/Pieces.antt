@@ -9,14 +9,17 @@ use Rattle.gl_std.specs.declared.trace.Trace.{Trace}
 
 -- `told` is the trace of the text's lines that LF has ended, and any text that begins with them goes on from there, with the
 -- line of this number; `unfinished` is what follows them
-pub record IsTold (limits : Bounds) (number : ℕ) (told : Trace) (unfinished text : List ℕ) : Type 0 where
+pub record IsTold (limits : Bounds) (number : ℕ) (told : Trace)
+    (unfinished text : List ℕ) : Type 0 where
   pub parts : text ≡ ended_lines text ++ unfinished
   pub one_line : ¬ Contains unfinished LF
-  pub goes_on : (rest : List ℕ) → trace_of limits (ended_lines text ++ rest) ≡ read_from limits number told (lines rest)
+  pub goes_on : (rest : List ℕ)
+      → trace_of limits (ended_lines text ++ rest) ≡ read_from limits number told (lines rest)
 
 -- the lines of the text that LF has ended have their first fault there, and so has any text that begins with them
 abbrev pub IsFaulty : Bounds → List ℕ → ℕ → StdKind → Type 0
-IsFaulty limits text number kind = (rest : List ℕ) → trace_of limits (ended_lines text ++ rest) ≡ Err (Line number kind)
+IsFaulty limits text number kind =
+    (rest : List ℕ) → trace_of limits (ended_lines text ++ rest) ≡ Err (Line number kind)
 
 -- the part of a text that is judged: all of it where it is whole, else the lines that LF has ended
 abbrev pub judged : Bool → List ℕ → List ℕ

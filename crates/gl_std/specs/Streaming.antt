@@ -60,10 +60,18 @@ CanBeAsked i failed = CanReadOn i.stage failed i.reader
 -- what the text told where the items so far are these of the trace: while reading goes on, its lines so far; at the end, all of
 -- it; at a fault, that its first line at fault is that one, or the trace of the lines that LF has ended where a read failed
 abbrev pub HasToldAt : Stage → Bounds → ℕ → SourceUse → LineReader → List ℕ → Trace → Type 0
-HasToldAt Reading limits turns input f text told = ReadsOn limits turns input.before input.after f text told
-HasToldAt Done limits turns input f text told = HasRead turns input.before input.after input.failed text true × (trace_of limits text ≡ Ok told) × HasJudged f.judge told
-HasToldAt (Faulty (Line number kind)) limits turns input f text told = (HasGiven turns input.before input.after f.turns text × IsFaulty limits text number kind) ⊎ (HasRead turns input.before input.after input.failed text true × (trace_of limits text ≡ Err (LineFault number kind)))
-HasToldAt (Faulty Read) limits turns input f text told = HasRead turns input.before input.after input.failed text false × (trace_of limits (ended_lines text) ≡ Ok told) × HasJudged f.judge told
+HasToldAt Reading limits turns input f text told =
+    ReadsOn limits turns input.before input.after f text told
+HasToldAt Done limits turns input f text told =
+    HasRead turns input.before input.after input.failed text true × (trace_of limits text ≡ Ok told)
+    × HasJudged f.judge told
+HasToldAt (Faulty (Line number kind)) limits turns input f text told =
+    (HasGiven turns input.before input.after f.turns text × IsFaulty limits text number kind)
+    ⊎ (HasRead turns input.before input.after input.failed text true
+    × (trace_of limits text ≡ Err (LineFault number kind)))
+HasToldAt (Faulty Read) limits turns input f text told =
+    HasRead turns input.before input.after input.failed text false
+    × (trace_of limits (ended_lines text) ≡ Ok told) × HasJudged f.judge told
 HasToldAt (Faulty Memory) limits turns input f text told = Unit {0}
 
 -- the reads so far gave this text, and the items so far told this trace of it
@@ -83,7 +91,8 @@ event_in End = None
 
 -- the trace with what an item tells, after which the names are these
 abbrev pub with_item : Item → NameLists → Trace → Trace
-with_item (Event thread event) names told = record told { names = names; lists = listed (length names.threads) told.lists thread event }
+with_item (Event thread event) names told =
+    record told { names = names; lists = listed (length names.threads) told.lists thread event }
 with_item Skipped names told = record told { skipped = told.skipped + 1 }
 with_item Stray names told = record told { stray = told.stray + 1 }
 with_item End names told = told
@@ -94,7 +103,8 @@ with_answer (Ok item) names told = with_item item names told
 with_answer (Err fault) names told = told
 
 -- the answer goes on from a text and its trace: a piece more may have been read
-pub record GoesOn (limits : Bounds) (turns : ℕ) (input : SourceUse) (i : Stream) (text : List ℕ) (told : Trace) (result : Result Item LinesFault) : Type 0 where
+pub record GoesOn (limits : Bounds) (turns : ℕ) (input : SourceUse) (i : Stream) (text : List ℕ)
+    (told : Trace) (result : Result Item LinesFault) : Type 0 where
   pub piece : List ℕ
   pub tells : HasTold limits turns input i (text ++ piece) (with_answer result (names_of i) told)
 
@@ -124,9 +134,11 @@ Leaves (Err fault) i = HasFault i fault
 
 -- this is the answer where the next item is asked for, with the source at one position before it and at the other after it:
 -- the next item of the text, or the fault that is there in its place
-pub record IsNextAnswer (now : Position) (failed : Bool) (items : Stream) (later : Position) (failed_later : Bool) (items_later : Stream) (result : Result Item LinesFault) : Type 0 where
+pub record IsNextAnswer (now : Position) (failed : Bool) (items : Stream) (later : Position)
+    (failed_later : Bool) (items_later : Stream) (result : Result Item LinesFault) : Type 0 where
   -- it goes on from whatever text the reads gave, and whatever trace the items told of it
-  pub tells : (limits : Bounds) (turns : ℕ) (start : Position) (text : List ℕ) (told : Trace) → HasTold limits turns (used start now failed) items text told
+  pub tells : (limits : Bounds) (turns : ℕ) (start : Position) (text : List ℕ) (told : Trace)
+      → HasTold limits turns (used start now failed) items text told
       → GoesOn limits turns (used start later failed_later) items_later text told result
   pub known : IsOfNamed (names_of items_later) result
   -- no item comes after the end, and none after a fault
@@ -143,4 +155,6 @@ pub record IsSummary (names : NameLists) (skipped stray : ℕ) (told : Trace) : 
 
 -- these are those of whatever trace the items have told, unless a line at fault was answered or memory was refused
 abbrev pub ArePartsOf : Stream → NameLists → ℕ → ℕ → Type 0
-ArePartsOf i names skipped stray = CanBeNamed i → (limits : Bounds) (turns : ℕ) (input : SourceUse) (text : List ℕ) (told : Trace) → HasTold limits turns input i text told → IsSummary names skipped stray told
+ArePartsOf i names skipped stray =
+    CanBeNamed i → (limits : Bounds) (turns : ℕ) (input : SourceUse) (text : List ℕ) (told : Trace)
+    → HasTold limits turns input i text told → IsSummary names skipped stray told

@@ -55,7 +55,8 @@ event_of JoinOf other loc = Join other loc
 abbrev pub event_told : NameLists → Operation → List ℕ → List ℕ → List ℕ → Event
 event_told names operation thread operand location =
     let after = names_after names operation thread operand location in
-    event_of operation (number_of (operands operation after) operand) (number_of after.locs location)
+    event_of operation (number_of (operands operation after) operand)
+    (number_of after.locs location)
 
 -- the events of the thread, or none of a new one
 abbrev pub events_of : List (List Event) → Option ℕ → List Event
@@ -63,7 +64,9 @@ events_of lists number = option_map_or (λ i. slice_index_or lists i []) number 
 
 -- the lists, with the event at the end of the thread's list, or in a list of its own for a new thread
 abbrev pub with_event : List (List Event) → Option ℕ → Event → List (List Event)
-with_event lists number event = option_map_or (λ i. slice_set lists i (slice_index_or lists i [] ++ event ∷ [])) number (lists ++ (event ∷ []) ∷ [])
+with_event lists number event =
+    option_map_or (λ i. slice_set lists i (slice_index_or lists i [] ++ event ∷ [])) number
+    (lists ++ (event ∷ []) ∷ [])
 
 -- the lists, with one of no events at the end for a thread that has no number
 abbrev pub with_list : List (List Event) → Option ℕ → List (List Event)
@@ -71,17 +74,21 @@ with_list lists number = option_map_or (λ _. lists) number (lists ++ [] ∷ [])
 
 -- the lists after an event of the thread: it is the last one of the thread's, and a new thread that is forked or joined has a
 -- list, too
-abbrev pub lists_after : NameLists → List (List Event) → Operation → List ℕ → List ℕ → Event → List (List Event)
+abbrev pub lists_after : NameLists → List (List Event) → Operation → List ℕ → List ℕ → Event
+    → List (List Event)
 lists_after names lists operation thread operand event =
     let told = with_event lists (position (bytes_eq thread) names.threads) event in
-    if is_on_thread operation then with_list told (position (bytes_eq operand) (mention names.threads thread)) else told
+    if is_on_thread operation
+    then with_list told (position (bytes_eq operand) (mention names.threads thread)) else told
 
 -- the trace with the event of a line
 abbrev pub with_call : Trace → Operation → List ℕ → List ℕ → List ℕ → Trace
 with_call told operation thread operand location =
     record told {
       names = names_after told.names operation thread operand location;
-      lists = lists_after told.names told.lists operation thread operand (event_told told.names operation thread operand location);
+      lists =
+          lists_after told.names told.lists operation thread operand
+          (event_told told.names operation thread operand location);
     }
 
 -- the first limit that doesn't allow an event, where there are these names with its own, and its thread has so many events
@@ -96,7 +103,8 @@ limit_reached limits names events =
 
 -- the trace after an event that the locks or a limit may not allow: the locks' reasons come before the limits', and where the
 -- reason is that a lock that is released isn't held, the event is a stray, which is counted and not kept
-abbrev pub after_event : ℕ → Trace → Trace → Option Refusal → Option StdKind → Result Trace ReadFault
+abbrev pub after_event : ℕ → Trace → Trace → Option Refusal → Option StdKind
+    → Result Trace ReadFault
 after_event line told kept None None = Ok kept
 after_event line told kept None (Some kind) = Err (Line line kind)
 after_event line told kept (Some NoRoom) limit = Err (Line line HeldFull)
@@ -105,37 +113,48 @@ after_event line told kept (Some IsUpgrade) limit = Err (Line line Upgrade)
 after_event line told kept (Some other) limit = Ok (record told { stray = told.stray + 1 })
 
 -- the trace after a line that tells an event
-abbrev pub after_call : Bounds → ℕ → Trace → Operation → List ℕ → List ℕ → List ℕ → Result Trace ReadFault
+abbrev pub after_call : Bounds → ℕ → Trace → Operation → List ℕ → List ℕ → List ℕ
+    → Result Trace ReadFault
 after_call limits line told operation thread operand location =
     let before = events_of told.lists (position (bytes_eq thread) told.names.threads) in
     after_event line told (with_call told operation thread operand location)
     (lock_refusal before (event_told told.names operation thread operand location))
-    (limit_reached limits (names_after told.names operation thread operand location) (length before))
+    (limit_reached limits (names_after told.names operation thread operand location)
+    (length before))
 
 -- the trace after a line that says this
 abbrev pub after_shape : Bounds → ℕ → Trace → Shape → Result Trace ReadFault
 after_shape limits line told Blank = Ok told
 after_shape limits line told (Bad kind) = Err (Line line kind)
 after_shape limits line told Other = Ok (record told { skipped = told.skipped + 1 })
-after_shape limits line told (Call operation thread operand location) = after_call limits line told operation thread operand location
+after_shape limits line told (Call operation thread operand location) =
+    after_call limits line told operation thread operand location
 
 -- the trace after the line with this number, or what is wrong with the line
 abbrev pub after_line : Bounds → ℕ → Trace → List ℕ → Result Trace ReadFault
 after_line limits number told line = after_shape limits number told (shape_of line)
 
 -- what is done with a trace, or the fault that is there in its place
-abbrev pub and_then : Result Trace ReadFault → (Trace → Result Trace ReadFault) → Result Trace ReadFault
+abbrev pub and_then : Result Trace ReadFault → (Trace → Result Trace ReadFault)
+    → Result Trace ReadFault
 and_then (Ok told) next = next told
 and_then (Err fault) next = Err fault
 
 -- the trace after these lines, of which the first has this number
 abbrev pub read_from : Bounds → ℕ → Trace → List (List ℕ) → Result Trace ReadFault
 read_from limits number told [] = Ok told
-read_from limits number told (line ∷ rest) = and_then (after_line limits number told line) (λ more. read_from limits (number + 1) more rest)
+read_from limits number told (line ∷ rest) =
+    and_then (after_line limits number told line) (λ more. read_from limits (number + 1) more rest)
 
 -- no names and no events
 abbrev pub nothing : Trace
-nothing = record { names = record { threads = []; locks = []; locs = [] }; lists = []; skipped = 0; stray = 0 }
+nothing =
+    record {
+      names = record { threads = []; locks = []; locs = [] };
+      lists = [];
+      skipped = 0;
+      stray = 0;
+    }
 
 -- the trace of a text, or its first fault
 unfoldable pub trace_of : Bounds → List ℕ → Result Trace ReadFault
@@ -162,8 +181,11 @@ pub record IsTraceOver (limits : Bounds) (trace : Trace) : Type 0 where
   pub locks_differ : AllPairs (λ a b. a ≢ b) trace.names.locks
   pub locs_differ : AllPairs (λ a b. a ≢ b) trace.names.locs
   -- no thread has more events than the limits allow
-  pub events_fit : (thread : ℕ) (es : List Event) → slice_get trace.lists thread ≡ Some es → length es ≤ limits.events
+  pub events_fit : (thread : ℕ) (es : List Event) → slice_get trace.lists thread ≡ Some es
+      → length es ≤ limits.events
   -- each thread's list is lawful
-  pub lawful : (thread : ℕ) (es : List Event) → slice_get trace.lists thread ≡ Some es → IsLawful limits thread es
+  pub lawful : (thread : ℕ) (es : List Event) → slice_get trace.lists thread ≡ Some es
+      → IsLawful limits thread es
   -- each number in a list has a name
-  pub named : (thread : ℕ) (es : List Event) → slice_get trace.lists thread ≡ Some es → All (IsNamed trace.names) es
+  pub named : (thread : ℕ) (es : List Event) → slice_get trace.lists thread ≡ Some es
+      → All (IsNamed trace.names) es

@@ -16,7 +16,8 @@ is_beside before mode Leader e f = is_compatible before mode f e
 
 -- the positions of edges that aren't among these, ascending
 abbrev pub others : List Edge → List ℕ → List ℕ
-others edges removed = filter (λ i. not (list_any (λ k. k == i) removed)) (range_with_len 0 (length edges))
+others edges removed =
+    filter (λ i. not (list_any (λ k. k == i) removed)) (range_with_len 0 (length edges))
 
 module _ (before : Segment → Segment → Bool) (mode : Mode) (edges : List Edge) where
   -- an edge that isn't gone may come beside this one
@@ -41,11 +42,13 @@ module _ (before : Segment → Segment → Bool) (mode : Mode) (edges : List Edg
 
   -- a trim order: each of these was the first that was stuck as those before it were gone
   abbrev pub IsTrimOrder : List ℕ → Type 0
-  IsTrimOrder removed = (n i : ℕ) → slice_get removed n ≡ Some i → IsFirstStuck (Contains (take n removed)) i
+  IsTrimOrder removed =
+      (n i : ℕ) → slice_get removed n ≡ Some i → IsFirstStuck (Contains (take n removed)) i
 
   -- an order of removal: each of these was stuck as those before it were gone, though others may have been too
   abbrev pub IsRemovalOrder : List ℕ → Type 0
-  IsRemovalOrder removed = (n i : ℕ) → slice_get removed n ≡ Some i → IsStuck (Contains (take n removed)) i
+  IsRemovalOrder removed =
+      (n i : ℕ) → slice_get removed n ≡ Some i → IsStuck (Contains (take n removed)) i
 
   -- and in the end each edge is gone
   pub record IsWholeRemoval (removed : List ℕ) : Type 0 where
@@ -56,9 +59,11 @@ module _ (before : Segment → Segment → Bool) (mode : Mode) (edges : List Edg
   pub record IsRemovalFault (removed : List ℕ) (place : ℕ) : Type 0 where
     pub before_it : IsRemovalOrder (take place removed)
     -- what stands there isn't stuck as those before it are gone: it is no edge, or is gone, or has a follower and a leader left
-    pub wrong : (i : ℕ) → slice_get removed place ≡ Some i → ¬ IsStuck (Contains (take place removed)) i
+    pub wrong : (i : ℕ) → slice_get removed place ≡ Some i
+        → ¬ IsStuck (Contains (take place removed)) i
     -- or the list ends there, and an edge is left
-    pub ended : slice_get removed place ≡ None → (place ≡ length removed) × ((i : ℕ) × (i < length edges) × (¬ Contains removed i))
+    pub ended : slice_get removed place ≡ None → (place ≡ length removed)
+        × ((i : ℕ) × (i < length edges) × (¬ Contains removed i))
 
   -- what trimming leaves, and what it takes away
   pub record IsTrimmed (kept removed : List ℕ) : Type 0 where
@@ -66,22 +71,28 @@ module _ (before : Segment → Segment → Bool) (mode : Mode) (edges : List Edg
     pub in_order : IsTrimOrder removed
     pub done : (i : ℕ) → ¬ IsStuck (Contains removed) i
     -- each edge that is left has a follower and a leader that are left
-    pub stays : (i : ℕ) (e : Edge) (side : Side) → slice_get edges i ≡ Some e → ¬ Contains removed i → HasBeside (Contains removed) side e
+    pub stays : (i : ℕ) (e : Edge) (side : Side) → slice_get edges i ≡ Some e → ¬ Contains removed i
+        → HasBeside (Contains removed) side e
     -- the others are kept
     pub rest : kept ≡ others edges removed
 
   -- none of these edges may come beside this one on one of the sides
   abbrev pub is_alone : List Edge → Edge → Bool
-  is_alone es e = not (list_any (is_beside before mode Follower e) es && list_any (is_beside before mode Leader e) es)
+  is_alone es e =
+      not (list_any (is_beside before mode Follower e) es
+      && list_any (is_beside before mode Leader e) es)
 
   -- the edge at this position isn't gone, and is alone among those that aren't
   abbrev pub is_stuck : List ℕ → ℕ → Bool
-  is_stuck removed i = not (list_any (λ k. k == i) removed) && list_any (is_alone (picked edges (others edges removed))) (picked edges (i ∷ []))
+  is_stuck removed i =
+      not (list_any (λ k. k == i) removed)
+      && list_any (is_alone (picked edges (others edges removed))) (picked edges (i ∷ []))
 
   -- the first n edges that go: always the first one that is stuck, as long as one is
   abbrev pub removals : ℕ → List ℕ
   removals zero = []
-  removals (suc n) = removals n ++ take 1 (filter (is_stuck (removals n)) (range_with_len 0 (length edges)))
+  removals (suc n) =
+      removals n ++ take 1 (filter (is_stuck (removals n)) (range_with_len 0 (length edges)))
 
   -- the trim order that takes away each edge, where there is one
   unfoldable pub whole_trim : Option (List ℕ)

@@ -26,7 +26,9 @@ fits Cycle before mode es = is_cycle before mode es
 fits Front before mode es = is_front mode es
 
 -- a walk through flagged edges, the first of the first class of the pattern, and so on to its last
-pub record IsWalk (purpose : Purpose) (before : Segment → Segment → Bool) (mode : Mode) (edges : List Edge) (classes : List ℕ) (flags : List Bool) (pattern positions : List ℕ) : Type 0 where
+pub record IsWalk (purpose : Purpose) (before : Segment → Segment → Bool) (mode : Mode)
+    (edges : List Edge) (classes : List ℕ) (flags : List Bool)
+    (pattern positions : List ℕ) : Type 0 where
   -- each edge is flagged
   pub flagged : All (λ i. slice_get flags i ≡ Some true) positions
   -- and of its class
@@ -35,10 +37,15 @@ pub record IsWalk (purpose : Purpose) (before : Segment → Segment → Bool) (m
   pub fitting : fits purpose before mode (picked edges positions) ≡ true
 
 -- no list of positions is such a walk
-abbrev pub NoWalk : Purpose → (Segment → Segment → Bool) → Mode → List Edge → List ℕ → List Bool → List ℕ → Type 0
-NoWalk purpose before mode edges classes flags pattern = (positions : List ℕ) → ¬ IsWalk purpose before mode edges classes flags pattern positions
+abbrev pub NoWalk : Purpose → (Segment → Segment → Bool) → Mode → List Edge → List ℕ → List Bool
+    → List ℕ → Type 0
+NoWalk purpose before mode edges classes flags pattern =
+    (positions : List ℕ) → ¬ IsWalk purpose before mode edges classes flags pattern positions
 
 -- these positions are such a walk, and no other one is less: the first position in which two differ decides
-pub record IsFirstWalk (purpose : Purpose) (before : Segment → Segment → Bool) (mode : Mode) (edges : List Edge) (classes : List ℕ) (flags : List Bool) (pattern positions : List ℕ) : Type 0 where
+pub record IsFirstWalk (purpose : Purpose) (before : Segment → Segment → Bool) (mode : Mode)
+    (edges : List Edge) (classes : List ℕ) (flags : List Bool)
+    (pattern positions : List ℕ) : Type 0 where
   pub walk : IsWalk purpose before mode edges classes flags pattern positions
-  pub least : (others : List ℕ) → IsWalk purpose before mode edges classes flags pattern others → IsTrue (is_le (slice_cmp nat_cmp positions others))
+  pub least : (others : List ℕ) → IsWalk purpose before mode edges classes flags pattern others
+      → IsTrue (is_le (slice_cmp nat_cmp positions others))

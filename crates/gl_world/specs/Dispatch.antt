@@ -70,7 +70,12 @@ wait d = record { dispatch = d; did = Nothing }
 abbrev pub ship_to : Bounds → Dispatch → Edge × Sample → ℕ → Shard → Handled
 ship_to limits d pair k shard =
     if has_place limits shard
-    then record { dispatch = record d { sent = d.sent + 1; shards = slice_set d.shards k (ship_edge shard pair) }; did = Shipped k }
+    then record {
+      dispatch = record d
+          { sent = d.sent + 1; shards = slice_set d.shards k (ship_edge shard pair) };
+      did =
+          Shipped k;
+    }
     else wait d
 
 -- the pair is shipped to the shard of its edge
@@ -87,7 +92,10 @@ ship_turn limits d = option_map_or (ship_pair limits d) (slice_get d.made d.sent
 abbrev pub work_on : Dispatch → ℕ → Shard → Handled
 work_on d k shard =
     if has_work shard
-    then record { dispatch = record d { shards = slice_set d.shards k (work_edge shard) }; did = Worked }
+    then record {
+      dispatch = record d { shards = slice_set d.shards k (work_edge shard) };
+      did = Worked;
+    }
     else wait d
 
 -- the next edge of the shard is worked, if the shard is known
@@ -97,4 +105,5 @@ work_turn d k = option_map_or (work_on d k) (slice_get d.shards k) (wait d)
 -- every edge made is shipped, and every edge shipped is worked
 pub record IsDone (d : Dispatch) : Type 0 where
   pub all_sent : d.sent ≡ length d.made
-  pub all_worked : (k : ℕ) (shard : Shard) → slice_get d.shards k ≡ Some shard → shard.worked ≡ length shard.shipped
+  pub all_worked : (k : ℕ) (shard : Shard) → slice_get d.shards k ≡ Some shard
+      → shard.worked ≡ length shard.shipped

@@ -18,7 +18,8 @@ pub record MayTake (limits : Bounds) (thread : ℕ) (lane : Lane) : Type 0 where
   pub running : has_closed thread lane ≡ false
   pub wish : Event
   pub left : slice_get lane.wishes lane.used ≡ Some wish
-  pub unlawful_or_room : (refusal limits thread (taken_of thread lane) wish ≢ None) ⊎ IsTrue (has_room limits lane)
+  pub unlawful_or_room : (refusal limits thread (taken_of thread lane) wish ≢ None)
+      ⊎ IsTrue (has_room limits lane)
 
 -- the thread hasn't ended, and there is room in its ring
 pub record MayEnd (limits : Bounds) (thread : ℕ) (lane : Lane) : Type 0 where
@@ -52,7 +53,9 @@ IsEnabled s (End thread) = HasLane s thread (MayEnd s.limits thread)
 IsEnabled s (Pull thread) = HasLane s thread MayPull
 IsEnabled s (Again thread place) = HasLane s thread (λ lane. MayOffer lane place)
 IsEnabled s Ship = MayShip s.limits s.dispatch
-IsEnabled s (Work k) = (shard : Shard) × (slice_get s.dispatch.shards k ≡ Some shard) × (shard.worked < length shard.shipped)
+IsEnabled s (Work k) =
+    (shard : Shard) × (slice_get s.dispatch.shards k ≡ Some shard)
+    × (shard.worked < length shard.shipped)
 
 -- a step does something exactly where it is enabled, and where it does nothing the state stays
 pub record StepsWhereEnabled : Type 0 where

@@ -27,7 +27,8 @@ pub record Keeper : Type 0 where
 
 -- a thread's recorder took the events of the pushed notes, which are listed, it is known whether the end mark was pushed, and a tracker
 -- follows the events of the popped notes
-pub record IsKept (limits : Bounds) (thread : ℕ) (pushed : List Note) (popped : ℕ) (taken : List Event) (closed : Bool) (taker : Taking) (tracker : Tracker) : Type 0 where
+pub record IsKept (limits : Bounds) (thread : ℕ) (pushed : List Note) (popped : ℕ)
+    (taken : List Event) (closed : Bool) (taker : Taking) (tracker : Tracker) : Type 0 where
   pub tracks : Tracks limits thread (events_of thread pushed) taker
   pub listed : taken ≡ events_of thread pushed
   pub known : closed ≡ has_ended thread pushed
@@ -57,7 +58,8 @@ notes_of thread notes = filter (λ note. note.thread == thread) notes
 
 -- a lane holds its thread's notes, in order, and what was popped of them is what the stream has of the thread
 pub record IsLaneOf (limits : Bounds) (thread : ℕ) (stream : List Note) (lane : Lane) : Type 0 where
-  pub own : (place : ℕ) (note : Note) → slice_get lane.pushed place ≡ Some note → note.thread ≡ thread
+  pub own : (place : ℕ) (note : Note) → slice_get lane.pushed place ≡ Some note
+      → note.thread ≡ thread
   pub in_order : AreInOrder limits lane.pushed
   pub within : lane.popped ≤ length lane.pushed
   pub told : notes_of thread stream ≡ take lane.popped lane.pushed
@@ -71,18 +73,21 @@ pub record AreMade (threads : ℕ) (stream : List Note) (made : List (Edge × Sa
 pub record AreShipped (d : Dispatch) : Type 0 where
   pub within : d.sent ≤ length d.made
   pub some : 1 ≤ d.sent → 1 ≤ length d.shards
-  pub each : (k : ℕ) (shard : Shard) → slice_get d.shards k ≡ Some shard → shard.shipped ≡ of_shard (length d.shards) (take d.sent d.made) k
+  pub each : (k : ℕ) (shard : Shard) → slice_get d.shards k ≡ Some shard
+      → shard.shipped ≡ of_shard (length d.shards) (take d.sent d.made) k
 
 -- what holds of a state after any steps from a new world
 pub record IsSound (s : State) : Type 0 where
   pub count : length s.lanes ≡ s.limits.threads
-  pub lanes : (thread : ℕ) (lane : Lane) → slice_get s.lanes thread ≡ Some lane → IsLaneOf s.limits thread s.stream lane
+  pub lanes : (thread : ℕ) (lane : Lane) → slice_get s.lanes thread ≡ Some lane
+      → IsLaneOf s.limits thread s.stream lane
   pub in_order : AreInOrder s.limits s.stream
   pub made : AreMade s.limits.threads s.stream s.dispatch.made
   pub shipped : AreShipped s.dispatch
 
 -- a shard's table has the edges that were worked, and no more were worked than shipped
-pub record IsTabled (shipped : List (Edge × Sample)) (worked : ℕ) (table : List (Edge × Sample)) : Type 0 where
+pub record IsTabled (shipped : List (Edge × Sample)) (worked : ℕ)
+    (table : List (Edge × Sample)) : Type 0 where
   pub within : worked ≤ length shipped
   pub table_is : table ≡ once (take worked shipped)
 
@@ -93,16 +98,24 @@ pub record AreShards (shards : List Shard) : Type 0 where
 
 -- each part is of the thread whose number is its place, under these limits
 pub record AreKeepers (limits : Bounds) (keepers : List Keeper) : Type 0 where
-  pub in_place : (thread : ℕ) (keeper : Keeper) → slice_get keepers thread ≡ Some keeper → keeper.thread ≡ thread
-  pub same_limits : (thread : ℕ) (keeper : Keeper) → slice_get keepers thread ≡ Some keeper → keeper.limits ≡ limits
+  pub in_place : (thread : ℕ) (keeper : Keeper) → slice_get keepers thread ≡ Some keeper
+      → keeper.thread ≡ thread
+  pub same_limits : (thread : ℕ) (keeper : Keeper) → slice_get keepers thread ≡ Some keeper
+      → keeper.limits ≡ limits
 
 -- the parts' lanes
 abbrev pub lanes_of : List Keeper → List Lane
 lanes_of keepers = map (λ keeper. keeper.lane) keepers
 
 -- a world's parts, its collector's stream and its dispatch make a state that is as after some steps from a new world
-pub record IsWorld (limits : Bounds) (dispatch : Dispatch) (keepers : List Keeper) (stream : List Note) (collecting : Bounds) : Type 0 where
-  pub sound : IsSound (record { limits = limits; lanes = lanes_of keepers; stream = stream; dispatch = dispatch })
+pub record IsWorld (limits : Bounds) (dispatch : Dispatch) (keepers : List Keeper)
+    (stream : List Note) (collecting : Bounds) : Type 0 where
+  pub sound : IsSound (record {
+    limits = limits;
+    lanes = lanes_of keepers;
+    stream = stream;
+    dispatch = dispatch;
+  })
   pub keeping : AreKeepers limits keepers
   pub same_limits : collecting ≡ limits
   pub range : AreWithinRange limits

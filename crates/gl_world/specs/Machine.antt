@@ -41,7 +41,13 @@ fresh_lane wishes = record { wishes = wishes; used = 0; pushed = []; popped = 0 
 
 -- the state before the first step
 abbrev pub start : Bounds → ℕ → List (List Event) → State
-start limits shards wishes = record { limits = limits; lanes = map fresh_lane wishes; stream = []; dispatch = fresh_dispatch shards }
+start limits shards wishes =
+    record {
+      limits = limits;
+      lanes = map fresh_lane wishes;
+      stream = [];
+      dispatch = fresh_dispatch shards;
+    }
 
 -- the events that the thread took: those of its pushed notes
 abbrev pub taken_of : ℕ → Lane → List Event
@@ -81,23 +87,33 @@ abbrev pub take_judged : Bounds → ℕ → Lane → Event → Option Refusal �
 take_judged limits thread lane wish (Some why) = record { lane = use_wish lane; did = Passed why }
 take_judged limits thread lane wish None =
     if has_room limits lane
-    then record { lane = push_note (use_wish lane) (event_note thread (taken_of thread lane) wish); did = Taken (length (taken_of thread lane)) }
+    then record {
+      lane = push_note (use_wish lane) (event_note thread (taken_of thread lane) wish);
+      did = Taken (length (taken_of thread lane));
+    }
     else rest lane
 
 -- the thread takes the wish, if there is one
 abbrev pub take_wish : Bounds → ℕ → Lane → Option Event → Turn
 take_wish limits thread lane None = rest lane
-take_wish limits thread lane (Some wish) = take_judged limits thread lane wish (refusal limits thread (taken_of thread lane) wish)
+take_wish limits thread lane (Some wish) =
+    take_judged limits thread lane wish (refusal limits thread (taken_of thread lane) wish)
 
 -- the thread takes its next wish, unless it has closed its lane
 unfoldable pub take_turn : Bounds → ℕ → Lane → Turn
-take_turn limits thread lane = if has_closed thread lane then rest lane else take_wish limits thread lane (slice_get lane.wishes lane.used)
+take_turn limits thread lane =
+    if has_closed thread lane then rest lane
+    else take_wish limits thread lane (slice_get lane.wishes lane.used)
 
 -- the thread closes its lane by an end mark, where there is room for it
 unfoldable pub end_turn : Bounds → ℕ → Lane → Turn
 end_turn limits thread lane =
     if has_closed thread lane then rest lane
-    else (if has_room limits lane then record { lane = push_note lane (end_note thread (length (taken_of thread lane))); did = Ended } else rest lane)
+    else (if has_room limits lane
+    then record {
+      lane = push_note lane (end_note thread (length (taken_of thread lane)));
+      did = Ended;
+    } else rest lane)
 
 -- the state after a step, and the answer
 pub record Moved : Type 0 where
@@ -110,7 +126,8 @@ idle s = record { after = s; did = Nothing }
 
 -- a turn of the thread alone
 abbrev pub turned : State → ℕ → Turn → Moved
-turned s thread turn = record { after = record s { lanes = slice_set s.lanes thread turn.lane }; did = turn.did }
+turned s thread turn =
+    record { after = record s { lanes = slice_set s.lanes thread turn.lane }; did = turn.did }
 
 -- the edges that a body makes which stands at this place of what the thread took: those of its event, ascending
 abbrev pub edges_due : ℕ → List Event → ℕ → Body → List (Edge × Sample)
@@ -135,12 +152,15 @@ pull_note s thread lane (Some note) = record {
 
 -- what the collector answers a note that doesn't come from the front of its lane: the refusal. That it would accept one is shown never to be
 abbrev pub answer_again : State → Note → Did
-answer_again s note = option_map_or Refused (note_refusal s.limits s.stream note) (Pulled (accepted_as note.place note.body))
+answer_again s note =
+    option_map_or Refused (note_refusal s.limits s.stream note)
+    (Pulled (accepted_as note.place note.body))
 
 -- the note at this place of the lane is offered once more, or too early, if there is one and it isn't the next to be popped
 abbrev pub again_note : State → Lane → ℕ → Option Note → Moved
 again_note s lane place None = idle s
-again_note s lane place (Some note) = if place == lane.popped then idle s else record { after = s; did = answer_again s note }
+again_note s lane place (Some note) =
+    if place == lane.popped then idle s else record { after = s; did = answer_again s note }
 
 -- what a thread does with its lane, if the thread is known
 abbrev pub on_lane : State → ℕ → (Lane → Moved) → Moved
@@ -154,8 +174,10 @@ handled s turn = record { after = record s { dispatch = turn.dispatch }; did = t
 unfoldable pub step : State → Step → Moved
 step s (Take thread) = on_lane s thread (λ lane. turned s thread (take_turn s.limits thread lane))
 step s (End thread) = on_lane s thread (λ lane. turned s thread (end_turn s.limits thread lane))
-step s (Pull thread) = on_lane s thread (λ lane. pull_note s thread lane (slice_get lane.pushed lane.popped))
-step s (Again thread place) = on_lane s thread (λ lane. again_note s lane place (slice_get lane.pushed place))
+step s (Pull thread) =
+    on_lane s thread (λ lane. pull_note s thread lane (slice_get lane.pushed lane.popped))
+step s (Again thread place) =
+    on_lane s thread (λ lane. again_note s lane place (slice_get lane.pushed place))
 step s Ship = handled s (ship_turn s.limits s.dispatch)
 step s (Work k) = handled s (work_turn s.dispatch k)
 
@@ -172,13 +194,18 @@ IsPrefixOf front whole = (more : List Event) × (front ++ more ≡ whole)
 -- of a thread is how what it took begins; and no note is accepted once more or too early
 pub record KeepsOrder (s : State) : Type 0 where
   pub in_order : AreInOrder s.limits s.stream
-  pub none_after_end : (place : ℕ) (note : Note) → slice_get s.stream place ≡ Some note → has_ended note.thread (take place s.stream) ≡ false
-  pub front : (thread : ℕ) (lane : Lane) → slice_get s.lanes thread ≡ Some lane → IsPrefixOf (events_of thread s.stream) (taken_of thread lane)
-  pub refused : (thread place : ℕ) (answer : Accepted) → (step s (Again thread place)).did ≢ Pulled answer
+  pub none_after_end : (place : ℕ) (note : Note) → slice_get s.stream place ≡ Some note
+      → has_ended note.thread (take place s.stream) ≡ false
+  pub front : (thread : ℕ) (lane : Lane) → slice_get s.lanes thread ≡ Some lane
+      → IsPrefixOf (events_of thread s.stream) (taken_of thread lane)
+  pub refused : (thread place : ℕ) (answer : Accepted)
+      → (step s (Again thread place)).did ≢ Pulled answer
 
 -- every list of steps from a new world keeps each thread's order
 abbrev pub EveryScheduleKeepsOrder : Type 0
-EveryScheduleKeepsOrder = (limits : Bounds) (shards : ℕ) (wishes : List (List Event)) → length wishes ≡ limits.threads → (steps : List Step) → KeepsOrder (run (start limits shards wishes) steps)
+EveryScheduleKeepsOrder =
+    (limits : Bounds) (shards : ℕ) (wishes : List (List Event)) → length wishes ≡ limits.threads
+    → (steps : List Step) → KeepsOrder (run (start limits shards wishes) steps)
 
 -- the lists of what the threads took, in the order of their numbers
 abbrev pub taken_lists : List Lane → List (List Event)

@@ -41,15 +41,19 @@ operand_name names (Join thread loc) = name_at names.threads thread
 
 -- what ends a line at this location: a CR just before LF isn't read, so one that the location ends with needs another
 abbrev pub line_end : List ℕ → List ℕ
-line_end location_name = if bytes_eq (without_cr location_name) location_name then LF ∷ [] else CR ∷ LF ∷ []
+line_end location_name =
+    if bytes_eq (without_cr location_name) location_name then LF ∷ [] else CR ∷ LF ∷ []
 
 -- the event as a line of its thread
 abbrev pub event_line : NameLists → List ℕ → Event → List ℕ
-event_line names thread event = thread ++ codes "|" ++ word_of event ++ codes "(" ++ operand_name names event ++ codes ")|" ++ name_at names.locs (location event)
+event_line names thread event =
+    thread ++ codes "|" ++ word_of event ++ codes "(" ++ operand_name names event ++ codes ")|"
+    ++ name_at names.locs (location event)
 
 -- the line with what ends it
 abbrev pub written_event : NameLists → List ℕ → Event → List ℕ
-written_event names thread event = event_line names thread event ++ line_end (name_at names.locs (location event))
+written_event names thread event =
+    event_line names thread event ++ line_end (name_at names.locs (location event))
 
 -- the lines of a thread's events, in their order
 abbrev pub written_list : NameLists → List ℕ → List Event → List ℕ
@@ -69,7 +73,9 @@ operation_in (Join thread loc) = JoinOf
 
 -- what a line says that tells the event by these names
 abbrev pub said : NameLists → List ℕ → Event → Shape
-said names thread event = Call (operation_in event) thread (operand_name names event) (name_at names.locs (location event))
+said names thread event =
+    Call (operation_in event) thread (operand_name names event)
+    (name_at names.locs (location event))
 
 -- a line can tell the event by these names: they aren't empty and hold no bar and no LF, no thread is forked or joined by
 -- itself, and the line isn't too long. The location may be any bytes but LF
@@ -85,8 +91,10 @@ pub record CanBeTold (names : NameLists) (thread : List ℕ) (event : Event) : T
 -- what is written of such an event is one line, which says its operation with the same names
 abbrev pub WrittenLinesSayEvents : Type 0
 WrittenLinesSayEvents =
-    (names : NameLists) (thread : List ℕ) (event : Event) (rest : List ℕ) → CanBeTold names thread event
-    → (lines (written_event names thread event ++ rest) ≡ event_line names thread event ∷ lines rest)
+    (names : NameLists) (thread : List ℕ) (event : Event) (rest : List ℕ)
+    → CanBeTold names thread event
+    → (lines (written_event names thread event ++ rest) ≡ event_line names thread event
+    ∷ lines rest)
     × (shape_of (event_line names thread event) ≡ said names thread event)
 
 -- what is written of a trace that was read is lines that say, thread by thread, the events of its lists: the same operations,
@@ -94,7 +102,8 @@ WrittenLinesSayEvents =
 abbrev pub WrittenTextsSayTraces : Type 0
 WrittenTextsSayTraces =
     (limits : Bounds) (text : List ℕ) (trace : Trace) → trace_of limits text ≡ Ok trace
-    → map shape_of (lines (written trace.names trace.lists)) ≡ flat_map (λ own. map (said trace.names own.0) own.1) (zip trace.names.threads trace.lists)
+    → map shape_of (lines (written trace.names trace.lists))
+    ≡ flat_map (λ own. map (said trace.names own.0) own.1) (zip trace.names.threads trace.lists)
 
 -- the same names stand in both lists, wherever they stand
 abbrev pub HaveSameNames : List (List ℕ) → List (List ℕ) → Type 0
@@ -102,7 +111,9 @@ HaveSameNames names others = (name : List ℕ) → Contains names name ↔ Conta
 
 -- what the thread's events say, by names
 abbrev pub told_of : Trace → List ℕ → List Shape
-told_of trace thread = map (said trace.names thread) (events_of trace.lists (position (bytes_eq thread) trace.names.threads))
+told_of trace thread =
+    map (said trace.names thread)
+    (events_of trace.lists (position (bytes_eq thread) trace.names.threads))
 
 -- read under these limits, the text tells what the trace tells: the same threads, locks and locations, and of each thread the
 -- same operations, in the same order, on the same operands and at the same locations; no line is skipped, and no event is a
@@ -120,4 +131,5 @@ pub record IsReadAgainAs (limits : Bounds) (text : List ℕ) (trace : Trace) : T
 -- what is written of a trace that was read is read again, under the same limits, and tells the same
 abbrev pub WrittenTextsAreReadAgain : Type 0
 WrittenTextsAreReadAgain =
-    (limits : Bounds) (text : List ℕ) (trace : Trace) → trace_of limits text ≡ Ok trace → IsReadAgainAs limits (written trace.names trace.lists) trace
+    (limits : Bounds) (text : List ℕ) (trace : Trace) → trace_of limits text ≡ Ok trace
+    → IsReadAgainAs limits (written trace.names trace.lists) trace

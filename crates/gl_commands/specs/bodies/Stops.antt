@@ -59,10 +59,12 @@ pub record IsLoopOf (trace : Trace) (line : List ℕ) : Type 0 where
 
 -- the line says either
 abbrev pub SaysWhyNoReport : Result Trace ReadFault → List ℕ → Type 0
-SaysWhyNoReport read line = IsFaultIn read line ⊎ ((trace : Trace) × (read ≡ Ok trace) × IsLoopOf trace line)
+SaysWhyNoReport read line =
+    IsFaultIn read line ⊎ ((trace : Trace) × (read ≡ Ok trace) × IsLoopOf trace line)
 
 -- the trace is the one that was read, and this is the report of it with these contents
-pub record IsReportOf (contents : Contents) (asked : Asked) (read : Result Trace ReadFault) (trace : Trace) (report : Report) : Type 0 where
+pub record IsReportOf (contents : Contents) (asked : Asked) (read : Result Trace ReadFault)
+    (trace : Trace) (report : Report) : Type 0 where
   pub is_read : read ≡ Ok trace
   pub before : Segment → Segment → Bool
   pub consistent : IsConsistent trace.lists
@@ -95,14 +97,17 @@ IsAnsweredInSession IsAnswered read (Err ended) =
 -- ---- a session that records a text as it comes
 
 -- a text was read whole, and this is answered to it
-pub record HasAnswer (IsAnswered : List ℕ → Answer → Type 0) (turns : ℕ) (input : SourceUse) (answer : Answer) : Type 0 where
+pub record HasAnswer (IsAnswered : List ℕ → Answer → Type 0) (turns : ℕ) (input : SourceUse)
+    (answer : Answer) : Type 0 where
   pub text : List ℕ
   pub whole : HasRead turns input.before input.after input.failed text true
   pub is : IsAnswered text answer
 
 -- it ends so over each writer that is left as it was
 abbrev pub EndsUnwritten : Bounds → (List ℕ → Answer → Type 0) → ℕ → SourceUse → Ended → Type 0
-EndsUnwritten limits IsAnswered turns input ended = (output : SinkUse) → Keeps output.before output.after → output.failed ≡ false → HasEndedStreamed limits IsAnswered turns input output ended
+EndsUnwritten limits IsAnswered turns input ended =
+    (output : SinkUse) → Keeps output.before output.after → output.failed ≡ false
+    → HasEndedStreamed limits IsAnswered turns input output ended
 
 -- this holds for each text that could have been read so under the options: of which the items told a trace, and this is the report, or why there
 -- is none

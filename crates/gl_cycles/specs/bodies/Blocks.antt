@@ -11,12 +11,14 @@ use Rattle.gl_cycles.specs.AllCycles.{lists_below}
 -- the cycles that begin with this front and have at most n more edges
 unfoldable pub block : (Segment → Segment → Bool) → Mode → List Edge → ℕ → List ℕ → List (List ℕ)
 block before mode edges n front =
-    filter (λ positions. is_cycle before mode (picked edges positions)) (map (λ rest. front ++ rest) (lists_below (length edges) n))
+    filter (λ positions. is_cycle before mode (picked edges positions))
+    (map (λ rest. front ++ rest) (lists_below (length edges) n))
 
 -- what a function gives at the numbers below n, one after the other
 abbrev pub upto : (ℕ → List (List ℕ)) → ℕ → List (List ℕ)
 upto f n = flat_map f (range_with_len 0 n)
 
 -- the cycles that begin with this front, go on with a position below k, and have at most n edges after that
-abbrev pub blocks_below : (Segment → Segment → Bool) → Mode → List Edge → ℕ → List ℕ → ℕ → List (List ℕ)
+abbrev pub blocks_below : (Segment → Segment → Bool) → Mode → List Edge → ℕ → List ℕ → ℕ
+    → List (List ℕ)
 blocks_below before mode edges n front k = upto (λ i. block before mode edges n (front ++ i ∷ [])) k

@@ -16,13 +16,15 @@ pub record IsReady (s : Searcher) : Type 0 where
   -- a path has room for the edges of a cycle
   pub fits : s.len ≤ LONGEST
   -- what is left out is in no cycle that is looked for
-  pub kept : KeepsCycles (is_before s.order.now) s.mode s.len (edges_of_table s.table.now) s.kept.items
+  pub kept : KeepsCycles (is_before s.order.now) s.mode s.len
+      (edges_of_table s.table.now) s.kept.items
   -- and the index leads through the rest
   pub indexed : IsIndexOf (edges_of_table s.table.now) s.kept.items s.index
 
 -- the cycles that begin with a front
 abbrev pub all_from : Searcher → List ℕ → List (List ℕ)
-all_from s front = block (is_before s.order.now) s.mode (edges_of_table s.table.now) (s.len - length front) front
+all_from s front =
+    block (is_before s.order.now) s.mode (edges_of_table s.table.now) (s.len - length front) front
 
 -- the cycles that begin with the edge at a position, up to the cap
 abbrev pub first_from : Searcher → ℕ → List (List ℕ)
@@ -42,4 +44,6 @@ sought_by s = record { table = s.table; order = s.order; mode = s.mode; len = s.
 -- these are the cycles that begin with edges before a root, up to the cap
 pub record HasFound (sought : Sought) (cap root : ℕ) (found : List (List ℕ)) : Type 0 where
   pub within : root ≤ length sought.table.now
-  pub first : found ≡ take cap (blocks_below (is_before sought.order.now) sought.mode (edges_of_table sought.table.now) (sought.len - 1) [] root)
+  pub first : found ≡ take cap
+      (blocks_below (is_before sought.order.now) sought.mode (edges_of_table sought.table.now)
+      (sought.len - 1) [] root)

@@ -11,7 +11,9 @@ use Rattle.gl_edges.specs.declared.tracker.Tracker.{Tracker}
 
 -- each of these edges stands among the pairs, with a sample before this place
 abbrev pub AreBefore : List Edge → List (Edge × Sample) → ℕ → Type 0
-AreBefore edges pairs place = (edge : Edge) → Contains edges edge → (sample : Sample) × Contains pairs (edge, sample) × (sample.place < place)
+AreBefore edges pairs place =
+    (edge : Edge) → Contains edges edge → (sample : Sample) × Contains pairs (edge, sample)
+    × (sample.place < place)
 
 -- what a gatherer knows after these pairs, before this place of its thread's list
 pub record Gathers (pairs : List (Edge × Sample)) (place : ℕ) (gatherer : Gatherer) : Type 0 where

@@ -74,12 +74,14 @@ pub record IsNode (nodes : List Node) (place : Place) (is_noted : Bool) (number 
 
 -- the edges of a node's acquire, if that was noted
 abbrev pub edges_at_node : ℕ → List (List Opened) → Node → List Edge
-edges_at_node thread ways node = if node.is_noted then edges_inside thread (around ways node) node.place.opened else []
+edges_at_node thread ways node =
+    if node.is_noted then edges_inside thread (around ways node) node.place.opened else []
 
 -- the edges of these nodes' acquires, where these locks lead to the nodes before
 unfoldable pub noted_after : ℕ → List (List Opened) → List Node → List Edge
 noted_after thread ways [] = []
-noted_after thread ways (node ∷ nodes) = edges_at_node thread ways node ++ noted_after thread (ways ++ way_to ways node ∷ []) nodes
+noted_after thread ways (node ∷ nodes) =
+    edges_at_node thread ways node ++ noted_after thread (ways ++ way_to ways node ∷ []) nodes
 
 -- the edges of the acquires that were noted
 abbrev pub noted : ℕ → List Node → List Edge

@@ -17,4 +17,5 @@ edges_of_share lists share = once (edges_made_from share.from (lists_of lists sh
 -- the shares follow one another, from one position to another
 abbrev pub FollowOn : ℕ → List Share → ℕ → Type 0
 FollowOn from [] to = from ≡ to
-FollowOn from (share ∷ rest) to = (share.from ≡ from) × (share.from ≤ share.to) × FollowOn share.to rest to
+FollowOn from (share ∷ rest) to =
+    (share.from ≡ from) × (share.from ≤ share.to) × FollowOn share.to rest to

@@ -33,10 +33,13 @@ pub record HasHanded (inputs : List LaneInput) (thread : ℕ) (notes : List Note
 
 -- the lanes stay where they are and hand over more, at most
 abbrev pub HandOver : List LaneInput → List LaneInput → Type 0
-HandOver before after = (thread : ℕ) (input : LaneInput) → slice_get before thread ≡ Some input → HasHanded after thread (handed input.lane)
+HandOver before after =
+    (thread : ℕ) (input : LaneInput) → slice_get before thread ≡ Some input
+    → HasHanded after thread (handed input.lane)
 
 -- after the notes that were collected of the thread, its lane handed over one that may not come next, for this reason
-pub record IsBroken (limits : Bounds) (inputs : List LaneInput) (stream : List Note) (thread : ℕ) (why : Refused) : Type 0 where
+pub record IsBroken (limits : Bounds) (inputs : List LaneInput) (stream : List Note) (thread : ℕ)
+    (why : Refused) : Type 0 where
   pub taken : List Note
   pub note : Note
   pub told : notes_of thread stream ≡ map (as_of thread) taken
@@ -57,7 +60,8 @@ IsPullFault thread limits inputs stream (kept.Broken number why) =
     (number ≡ thread) × IsBroken limits inputs stream number why
 
 -- the edges made were shipped up to one whose shard this is, and through each outlet this was sent
-pub record HasStopped (made : List (Edge × Sample)) (sent : List (List (Edge × Sample))) (shard : ℕ) : Type 0 where
+pub record HasStopped (made : List (Edge × Sample)) (sent : List (List (Edge × Sample)))
+    (shard : ℕ) : Type 0 where
   pub shipped : List (Edge × Sample)
   pub stopped : IsStoppedAt (length sent) made shipped shard
   pub dealt_are : sent ≡ dealt (length sent) shipped

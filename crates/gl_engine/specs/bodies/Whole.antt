@@ -27,7 +27,8 @@ abbrev pub KeepsNotes : Collected → List LaneInput → Type 0
 KeepsNotes c inputs = IsCollector c.limits inputs c.stream (made_by c.stream) c.limits
 
 -- a run has kept up so far: what a collector keeps of the notes collected, and to each shard the edges were shipped that are its own
-pub record KeepsUp (limits : Bounds) (inputs : List LaneInput) (stream : List Note) (outlets : List Sending) : Type 0 where
+pub record KeepsUp (limits : Bounds) (inputs : List LaneInput) (stream : List Note)
+    (outlets : List Sending) : Type 0 where
   pub collector : IsCollector limits inputs stream (made_by stream) limits
   pub shipped : HaveShipped outlets (made_by stream)
 
@@ -70,20 +71,24 @@ pub record GoesOn {A : Type 0} (before after : Collected) (inputs later : List L
   pub stopped : IfErr result (StopsWith before.stream after.stream (map (λ o. o.sent) shipped))
 
 -- all was collected: each thread's notes in order and as they were popped, up to its end mark
-pub record IsCollected (limits : Bounds) (inputs : List LaneInput) (stream : List Note) : Type 0 where
-  pub told : (thread : ℕ) (input : LaneInput) → slice_get inputs thread ≡ Some input → notes_of thread stream ≡ map (as_of thread) input.lane.popped
+pub record IsCollected (limits : Bounds) (inputs : List LaneInput)
+    (stream : List Note) : Type 0 where
+  pub told : (thread : ℕ) (input : LaneInput) → slice_get inputs thread ≡ Some input
+      → notes_of thread stream ≡ map (as_of thread) input.lane.popped
   pub in_order : AreInOrder limits stream
   pub ended : (thread : ℕ) → thread < limits.threads → has_ended thread stream ≡ true
 
 -- all was collected, and shipped: to each shard those of the edges made that are its own
-pub record IsWhole (limits : Bounds) (inputs : List LaneInput) (stream : List Note) (sent : List AllSent) : Type 0 where
+pub record IsWhole (limits : Bounds) (inputs : List LaneInput) (stream : List Note)
+    (sent : List AllSent) : Type 0 where
   pub collected : IsCollected limits inputs stream
   pub made_are : AreMade limits.threads stream (made_by stream)
   pub some : 0 < length sent
   pub shipped : map (λ s. s.sent) sent ≡ dealt (length sent) (made_by stream)
 
 -- there is an input for each thread; all was collected and shipped unless something went wrong, and where a lane broke, there is a note to blame
-pub record IsGathered (limits : Bounds) (inputs : List LaneInput) (stream : List Note) (collecting : Bounds) (sent : List AllSent) (fault : Option RunFault) : Type 0 where
+pub record IsGathered (limits : Bounds) (inputs : List LaneInput) (stream : List Note)
+    (collecting : Bounds) (sent : List AllSent) (fault : Option RunFault) : Type 0 where
   pub count : length inputs ≡ limits.threads
   pub same_limits : collecting ≡ limits
   pub whole : fault ≡ None → IsWhole limits inputs stream sent

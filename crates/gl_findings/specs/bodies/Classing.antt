@@ -14,14 +14,18 @@ are_places a b = nat_eq a.0 b.0 && nat_eq a.1 b.1
 
 -- two places lead to the position of the first of these edges that was made there
 abbrev pub AreFirsts : List (Edge × Sample) → (ℕ × ℕ → Option ℕ) → Type 0
-AreFirsts pairs first = (places : ℕ × ℕ) → first places ≡ position (λ pair. are_places places (places_of pair)) pairs
+AreFirsts pairs first =
+    (places : ℕ × ℕ) → first places ≡ position (λ pair. are_places places (places_of pair)) pairs
 
 -- the flagged edges so far have their classes flagged
 abbrev pub AreFlaggedBefore : ℕ → List ℕ → List Bool → List Bool → Type 0
-AreFlaggedBefore n classes flags occurs = (i class : ℕ) → i < n → class < length occurs → slice_get flags i ≡ Some true → slice_get classes i ≡ Some class → slice_get occurs class ≡ Some true
+AreFlaggedBefore n classes flags occurs =
+    (i class : ℕ) → i < n → class < length occurs → slice_get flags i ≡ Some true
+    → slice_get classes i ≡ Some class → slice_get occurs class ≡ Some true
 
 -- for each place from m on the next one, at it or after, where something may occur; size where there is none
 pub record AreNextFrom (m size : ℕ) (occurs : List Bool) (nexts : List ℕ) : Type 0 where
   pub long : length nexts ≡ size + 1
   pub from : (k next : ℕ) → m ≤ k → slice_get nexts k ≡ Some next → (k ≤ next) × (next ≤ size)
-  pub skipped : (k next place : ℕ) → m ≤ k → slice_get nexts k ≡ Some next → k ≤ place → place < next → slice_get occurs place ≡ Some false
+  pub skipped : (k next place : ℕ) → m ≤ k → slice_get nexts k ≡ Some next → k ≤ place
+      → place < next → slice_get occurs place ≡ Some false

@@ -29,12 +29,16 @@ pub record IsReady (s : Finder) : Type 0 where
   -- the one walker looks for cycles among edges that are kept, and the other one for fronts among their models
   pub cycles : WalksFor s s.cycles Cycle
   pub fronts : WalksFor s s.fronts Front
-  pub kept : KeepsCycles (is_before s.order.now) s.mode s.len (edges_of_table s.table.now) s.cycles.ground.flags.now
-  pub models : AreModels (edges_of_table s.table.now) (classes_of s.table.now) s.cycles.ground.flags.now s.fronts.ground.flags.now
+  pub kept : KeepsCycles (is_before s.order.now) s.mode s.len
+      (edges_of_table s.table.now) s.cycles.ground.flags.now
+  pub models : AreModels (edges_of_table s.table.now)
+      (classes_of s.table.now) s.cycles.ground.flags.now s.fronts.ground.flags.now
   -- and the classes that have a model follow one another
-  pub next : IsNextClass (length s.table.now) (classes_of s.table.now) s.fronts.ground.flags.now s.next.now
+  pub next : IsNextClass (length s.table.now)
+      (classes_of s.table.now) s.fronts.ground.flags.now s.next.now
   -- and each has the thread that runs it, where one alone does
-  pub run : AreRunners (edges_of_table s.table.now) (classes_of s.table.now) s.cycles.ground.flags.now s.runners.now
+  pub run : AreRunners (edges_of_table s.table.now)
+      (classes_of s.table.now) s.cycles.ground.flags.now s.runners.now
 
 -- no walk ends before it is through
 abbrev pub IsUnbound : Finder → Type 0

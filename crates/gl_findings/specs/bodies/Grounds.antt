@@ -11,7 +11,8 @@ pub record AreAlike (e f : Edge) : Type 0 where
   pub guards : e.guards ≡ f.guards
 
 -- a flagged edge is a model of the one at position i: alike, and of the same class
-pub record HasModel (edges : List Edge) (classes : List ℕ) (flags : List Bool) (i : ℕ) : Type 0 where
+pub record HasModel (edges : List Edge) (classes : List ℕ) (flags : List Bool)
+    (i : ℕ) : Type 0 where
   pub place : ℕ
   pub edge : Edge
   pub model : Edge
@@ -23,14 +24,18 @@ pub record HasModel (edges : List Edge) (classes : List ℕ) (flags : List Bool)
 
 -- each kept edge has a model among those that are flagged
 abbrev pub AreModels : List Edge → List ℕ → List Bool → List Bool → Type 0
-AreModels edges classes kept models = (i : ℕ) → slice_get kept i ≡ Some true → HasModel edges classes models i
+AreModels edges classes kept models =
+    (i : ℕ) → slice_get kept i ≡ Some true → HasModel edges classes models i
 
 -- no flagged edge is of this class
 abbrev pub IsEmptyClass : List ℕ → List Bool → ℕ → Type 0
-IsEmptyClass classes flags class = (i : ℕ) → slice_get flags i ≡ Some true → ¬ (slice_get classes i ≡ Some class)
+IsEmptyClass classes flags class =
+    (i : ℕ) → slice_get flags i ≡ Some true → ¬ (slice_get classes i ≡ Some class)
 
 -- for each class from 0 to size the next one, at it or after, of which an edge may be flagged; size where there is none
-pub record IsNextClass (size : ℕ) (classes : List ℕ) (flags : List Bool) (nexts : List ℕ) : Type 0 where
+pub record IsNextClass (size : ℕ) (classes : List ℕ) (flags : List Bool)
+    (nexts : List ℕ) : Type 0 where
   pub long : length nexts ≡ size + 1
   pub from : (m next : ℕ) → slice_get nexts m ≡ Some next → (m ≤ next) × (next ≤ size)
-  pub skipped : (m next class : ℕ) → slice_get nexts m ≡ Some next → m ≤ class → class < next → IsEmptyClass classes flags class
+  pub skipped : (m next class : ℕ) → slice_get nexts m ≡ Some next → m ≤ class → class < next
+      → IsEmptyClass classes flags class

@@ -8,7 +8,8 @@ use Rattle.gl_filters.specs.declared.query.Mode.{Mode}
 use Rattle.gl_cycles.specs.AllCycles.{lists_below}
 use Rattle.gl_findings.specs.Findings.{begins_least, first_with}
 
-module _ (before : Segment → Segment → Bool) (mode : Mode) (len : ℕ) (table : List (Edge × Sample)) where
+module _ (before : Segment → Segment → Bool) (mode : Mode) (len : ℕ)
+    (table : List (Edge × Sample)) where
   -- the finding of a signature, where it begins where it is to be told from and has a cycle
   abbrev pub finding : List ℕ → List (List ℕ)
   finding signature = cond (begins_least signature) (first_with before mode len table signature) []

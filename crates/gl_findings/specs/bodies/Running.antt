@@ -14,11 +14,16 @@ IsRunBy thread (Some Several) = Unit {0}
 -- each edge that is kept, before a position, is of a thread that runs its class
 abbrev pub AreRunnersBefore : ℕ → List Edge → List ℕ → List Bool → List Runner → Type 0
 AreRunnersBefore n edges classes kept runners =
-    (i class : ℕ) (e : Edge) → i < n → slice_get kept i ≡ Some true → slice_get classes i ≡ Some class → slice_get edges i ≡ Some e → IsRunBy e.thread (slice_get runners class)
+    (i class : ℕ) (e : Edge) → i < n → slice_get kept i ≡ Some true
+    → slice_get classes i ≡ Some class → slice_get edges i ≡ Some e
+    → IsRunBy e.thread (slice_get runners class)
 
 -- each edge that is kept is of a thread that runs its class
-pub record AreRunners (edges : List Edge) (classes : List ℕ) (kept : List Bool) (runners : List Runner) : Type 0 where
-  pub each : (i class : ℕ) (e : Edge) → slice_get kept i ≡ Some true → slice_get classes i ≡ Some class → slice_get edges i ≡ Some e → IsRunBy e.thread (slice_get runners class)
+pub record AreRunners (edges : List Edge) (classes : List ℕ) (kept : List Bool)
+    (runners : List Runner) : Type 0 where
+  pub each : (i class : ℕ) (e : Edge) → slice_get kept i ≡ Some true
+      → slice_get classes i ≡ Some class → slice_get edges i ≡ Some e
+      → IsRunBy e.thread (slice_get runners class)
 
 -- one and the same thread alone runs both classes
 pub record AreRunByOne (runners : List Runner) (one other : ℕ) : Type 0 where

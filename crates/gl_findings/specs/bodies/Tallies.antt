@@ -13,7 +13,9 @@ numbers_of class noted = map (λ q. q.1) (filter (λ q. nat_eq q.0 class) noted)
 
 -- each class has its count of different numbers
 abbrev pub AreCounted : List (ℕ × ℕ) → List ℕ → Type 0
-AreCounted noted counts = (class count : ℕ) → slice_get counts class ≡ Some count → count ≡ distinct_count nat_eq (numbers_of class noted)
+AreCounted noted counts =
+    (class count : ℕ) → slice_get counts class ≡ Some count
+    → count ≡ distinct_count nat_eq (numbers_of class noted)
 
 -- what is noted so far is known, and counted
 pub record IsTally (noted : List (ℕ × ℕ)) (seen : ℕ × ℕ → Bool) (counts : List ℕ) : Type 0 where
@@ -28,5 +30,7 @@ abbrev pub locks_of : Edge × Sample → List ℕ
 locks_of pair = pair.0.held ∷ pair.0.wanted ∷ []
 
 -- the numbers that these edges of a table have, each with its edge's class
-abbrev pub noted_by : (Edge × Sample → List ℕ) → List (Edge × Sample) → List (Edge × Sample) → List (ℕ × ℕ)
-noted_by numbers table pairs = flat_map (λ pair. map (λ n. (class_of table pair, n)) (numbers pair)) pairs
+abbrev pub noted_by : (Edge × Sample → List ℕ) → List (Edge × Sample) → List (Edge × Sample)
+    → List (ℕ × ℕ)
+noted_by numbers table pairs =
+    flat_map (λ pair. map (λ n. (class_of table pair, n)) (numbers pair)) pairs

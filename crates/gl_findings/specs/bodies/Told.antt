@@ -12,7 +12,8 @@ use Rattle.gl_findings.specs.bodies.Running.{AreRunners}
 use Rattle.gl_findings.specs.declared.grounds.Grounds.{Grounds}
 
 -- it is so
-pub record AreGrounds (before : Segment → Segment → Bool) (mode : Mode) (len : ℕ) (table : List (Edge × Sample)) (g : Grounds) : Type 0 where
+pub record AreGrounds (before : Segment → Segment → Bool) (mode : Mode) (len : ℕ)
+    (table : List (Edge × Sample)) (g : Grounds) : Type 0 where
   pub same_classes : g.classes.items ≡ classes_of table
   pub keeps : KeepsCycles before mode len (edges_of_table table) g.kept.items
   pub long : length g.models.items ≡ length table

@@ -9,5 +9,9 @@ padded more lists = lists ++ replicate more []
 
 -- each thread that the lists fork or join has a list
 pub record HaveAll (lists : List (List Event)) : Type 0 where
-  pub forked : (thread : ℕ) (es : List Event) (place other loc : ℕ) → slice_get lists thread ≡ Some es → slice_get es place ≡ Some (Fork other loc) → other < length lists
-  pub joined : (thread : ℕ) (es : List Event) (place other loc : ℕ) → slice_get lists thread ≡ Some es → slice_get es place ≡ Some (Join other loc) → other < length lists
+  pub forked : (thread : ℕ) (es : List Event) (place other loc : ℕ)
+      → slice_get lists thread ≡ Some es → slice_get es place ≡ Some (Fork other loc)
+      → other < length lists
+  pub joined : (thread : ℕ) (es : List Event) (place other loc : ℕ)
+      → slice_get lists thread ≡ Some es → slice_get es place ≡ Some (Join other loc)
+      → other < length lists

@@ -26,14 +26,19 @@ use Rattle.gl_live.specs.declared.run.Ran.{Ran}
 use Rattle.gl_live.specs.declared.session.Session.{Session}
 
 -- the recorders are those of the session, in the order of thread numbers, and each has recorded its thread's events of these lists
-pub record AreRecorded (s : Roster) (lists : List (List Event)) (recorders : List Recording) : Type 0 where
-  pub identities : (thread : ℕ) (r : Recording) → slice_get recorders thread ≡ Some r → IsOnRoster s (identity_of r)
-  pub threads : (thread : ℕ) (r : Recording) → slice_get recorders thread ≡ Some r → r.thread ≡ thread
-  pub events : (thread : ℕ) (r : Recording) → slice_get recorders thread ≡ Some r → recorded r ≡ slice_index_or lists thread []
+pub record AreRecorded (s : Roster) (lists : List (List Event))
+    (recorders : List Recording) : Type 0 where
+  pub identities : (thread : ℕ) (r : Recording) → slice_get recorders thread ≡ Some r
+      → IsOnRoster s (identity_of r)
+  pub threads : (thread : ℕ) (r : Recording) → slice_get recorders thread ≡ Some r
+      → r.thread ≡ thread
+  pub events : (thread : ℕ) (r : Recording) → slice_get recorders thread ≡ Some r
+      → recorded r ≡ slice_index_or lists thread []
 
 -- an event is of one of so many threads
 abbrev pub IsOfThreads : ℕ → Item → Type 0
-IsOfThreads threads item = (thread : ℕ) (event : Event) → event_in item ≡ Some (thread, event) → thread < threads
+IsOfThreads threads item =
+    (thread : ℕ) (event : Event) → event_in item ≡ Some (thread, event) → thread < threads
 
 -- the recorder is one of the session, and has recorded the whole of its thread's list
 pub record HasTaken (s : Roster) (lists : List (List Event)) (r : Recording) : Type 0 where
@@ -48,7 +53,8 @@ pub record HasGathered (c : Collecting) (outlets : List Sending) (g : Gathering)
   pub feeds : g.fault ≡ None → map (λ s. s.feed) g.sent ≡ map (λ o. o.feed) outlets
 
 -- the reads gave a text, and the recorders have recorded what the items told of it
-pub record HaveKeptUp (s : Roster) (limits : Bounds) (turns : ℕ) (input : SourceUse) (items : Stream)
+pub record HaveKeptUp (s : Roster) (limits : Bounds) (turns : ℕ) (input : SourceUse)
+    (items : Stream)
     (recorders : List Recording) : Type 0 where
   pub text : List ℕ
   pub told : Trace
@@ -65,7 +71,8 @@ KeepUp now failed items recorders later failed_later items_later recorders_later
 
 -- recorders have recorded what the items told of a text, under a limit of as many threads as there are recorders; each takes as many events
 -- as there may be
-pub record IsRecording (now : Position) (failed : Bool) (items : Stream) (recorders : List Recording) : Type 0 where
+pub record IsRecording (now : Position) (failed : Bool) (items : Stream)
+    (recorders : List Recording) : Type 0 where
   pub s : Roster
   pub limits : Bounds
   pub turns : ℕ
@@ -83,17 +90,21 @@ pub record MayTake (recorders : List Recording) (thread : ℕ) (event : Event) :
 
 -- an event is one that its thread's recorder may take next
 abbrev pub CanBeTaken : List Recording → Item → Type 0
-CanBeTaken recorders item = (thread : ℕ) (event : Event) → event_in item ≡ Some (thread, event) → MayTake recorders thread event
+CanBeTaken recorders item =
+    (thread : ℕ) (event : Event) → event_in item ≡ Some (thread, event)
+    → MayTake recorders thread event
 
 -- the reads gave a text, of which the items told no more than this trace, for this fault
-pub record Stops (limits : Bounds) (turns : ℕ) (input : SourceUse) (items : Stream) (fault : LinesFault) : Type 0 where
+pub record Stops (limits : Bounds) (turns : ℕ) (input : SourceUse) (items : Stream)
+    (fault : LinesFault) : Type 0 where
   pub text : List ℕ
   pub told : Trace
   pub tells : HasTold limits turns input items text told
   pub why : HasFault items fault
 
 -- whatever the recorders followed with this left to read, the items stop with that left, for this fault
-abbrev pub StopsAfter : Position → Bool → Stream → List Recording → Position → Bool → Stream → LinesFault → Type 0
+abbrev pub StopsAfter : Position → Bool → Stream → List Recording → Position → Bool → Stream
+    → LinesFault → Type 0
 StopsAfter now failed items recorders later failed_later items_later fault =
     (s : Roster) (limits : Bounds) (turns : ℕ) (start : Position)
     → HaveKeptUp s limits turns (used start now failed) items recorders
@@ -102,24 +113,31 @@ StopsAfter now failed items recorders later failed_later items_later fault =
 -- what a session of so many threads leaves where the items told this trace: receipts for the trace's lists, and for an empty one of each
 -- thread that the trace doesn't have; or why there is no report
 abbrev pub LeavesAll : ℕ → Stream → Trace → Result Ran StreamFault → Type 0
-LeavesAll threads items told (Ok ran) = IsDone items × ((more : ℕ) → threads ≡ length told.lists + more → All (IsReceiptOf (gathered_from ran.gathered) (padded more told.lists)) ran.receipts.items)
+LeavesAll threads items told (Ok ran) =
+    IsDone items × ((more : ℕ) → threads ≡ length told.lists + more
+    → All (IsReceiptOf (gathered_from ran.gathered) (padded more told.lists)) ran.receipts.items)
 LeavesAll threads items told (Err fault) = IsStreamFault items told fault
 
 -- the reads gave a text, the items told a trace of it, and a session of so many threads has recorded it
-pub record HasStreamed (limits : Bounds) (turns : ℕ) (input : SourceUse) (threads : ℕ) (items : Stream) (ran : Result Ran StreamFault) : Type 0 where
+pub record HasStreamed (limits : Bounds) (turns : ℕ) (input : SourceUse) (threads : ℕ)
+    (items : Stream) (ran : Result Ran StreamFault) : Type 0 where
   pub text : List ℕ
   pub told : Trace
   pub tells : HasTold limits turns input items text told
   pub leaves : LeavesAll threads items told ran
 
 -- where nothing was told yet with this left to read, a session of so many threads has recorded what was told with that left
-abbrev pub StreamsOn : Position → Bool → Stream → Position → Bool → ℕ → Stream → Result Ran StreamFault → Type 0
+abbrev pub StreamsOn : Position → Bool → Stream → Position → Bool → ℕ → Stream
+    → Result Ran StreamFault → Type 0
 StreamsOn now failed items later failed_later threads items_later ran =
-    (limits : Bounds) (turns : ℕ) (start : Position) → HasTold limits turns (used start now failed) items [] nothing → HasStreamed limits turns (used start later failed_later) threads items_later ran
+    (limits : Bounds) (turns : ℕ) (start : Position)
+    → HasTold limits turns (used start now failed) items [] nothing
+    → HasStreamed limits turns (used start later failed_later) threads items_later ran
 
 -- the session is ready, its recorders have recorded nothing, and none of the text's items was asked for yet
 pub record IsAtStart
-    (session : Session) (recorders : List Recording) (now : Position) (failed : Bool) (items : Stream)
+    (session : Session) (recorders : List Recording) (now : Position) (failed : Bool)
+    (items : Stream)
     : Type 0 where
   pub ready : IsReady (length recorders) session
   pub unused : AreRecorded (roster_of session.collector) [] recorders

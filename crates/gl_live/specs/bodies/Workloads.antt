@@ -8,7 +8,8 @@ use Rattle.gl_live.specs.declared.recording.Workload.{Workload}
 
 -- the workload has room for a receipt of each of its recorders
 abbrev pub HasRoom : Workload → Type 0
-HasRoom workload = vec_len workload.receipts + length workload.recorders.items ≤ vec_capacity workload.receipts
+HasRoom workload =
+    vec_len workload.receipts + length workload.recorders.items ≤ vec_capacity workload.receipts
 
 -- the recorders are of the session, and there is room for a receipt of each
 pub record IsWorkloadOf (s : Roster) (workload : Workload) : Type 0 where

@@ -34,7 +34,8 @@ may_meet before mode ByThread e f = not (e.thread == f.thread) && kinds_go_toget
 may_meet before mode BySegment e f = goes_with before mode e f
 
 -- an edge alike to this one is flagged: its model
-pub record HasModel (grain : Grain) (edges : List Edge) (flags : List Bool) (e : Edge) : Type 0 where
+pub record HasModel (grain : Grain) (edges : List Edge) (flags : List Bool)
+    (e : Edge) : Type 0 where
   pub place : ℕ
   pub model : Edge
   pub stands : slice_get edges place ≡ Some model
@@ -43,30 +44,42 @@ pub record HasModel (grain : Grain) (edges : List Edge) (flags : List Bool) (e :
 
 -- each edge that is kept has a model
 abbrev pub AreModels : Grain → List Edge → List Bool → List Bool → Type 0
-AreModels grain edges kept flags = (i : ℕ) (e : Edge) → slice_get edges i ≡ Some e → slice_get kept i ≡ Some true → HasModel grain edges flags e
+AreModels grain edges kept flags =
+    (i : ℕ) (e : Edge) → slice_get edges i ≡ Some e → slice_get kept i ≡ Some true
+    → HasModel grain edges flags e
 
 -- the place m steps after place k of a cycle of n edges, round
 abbrev pub place_after : ℕ → ℕ → ℕ → ℕ
 place_after n k m = if nat_lt (k + m) n then k + m else k + m - n
 
 -- from place k on the cycle goes through edges that are alike to those at these positions
-pub record GoesThrough (grain : Grain) (edges cycle : List Edge) (k : ℕ) (path : List ℕ) : Type 0 where
+pub record GoesThrough (grain : Grain) (edges cycle : List Edge) (k : ℕ)
+    (path : List ℕ) : Type 0 where
   pub within : k < length cycle
   pub fits : length path ≤ length cycle
-  pub alike : (m i : ℕ) (e f : Edge) → slice_get path m ≡ Some i → slice_get edges i ≡ Some e → slice_get cycle (place_after (length cycle) k m) ≡ Some f → AreAlike grain e f
+  pub alike : (m i : ℕ) (e f : Edge) → slice_get path m ≡ Some i → slice_get edges i ≡ Some e
+      → slice_get cycle (place_after (length cycle) k m) ≡ Some f → AreAlike grain e f
 
 -- the last edge of the path leads on to this one
 abbrev pub LastLeadsTo : List Edge → List ℕ → Edge → Type 0
-LastLeadsTo edges path f = (i : ℕ) (e : Edge) → slice_get path (length path - 1) ≡ Some i → slice_get edges i ≡ Some e → leads_to e f ≡ true
+LastLeadsTo edges path f =
+    (i : ℕ) (e : Edge) → slice_get path (length path - 1) ≡ Some i → slice_get edges i ≡ Some e
+    → leads_to e f ≡ true
 
 -- edges alike to those of the path may stand in one cycle with edges alike to this one
-abbrev pub MayMeetAll : (Segment → Segment → Bool) → Mode → Grain → List Edge → List ℕ → Edge → Type 0
-MayMeetAll before mode grain edges path f = (m i : ℕ) (e : Edge) → slice_get path m ≡ Some i → slice_get edges i ≡ Some e → may_meet before mode grain e f ≡ true
+abbrev pub MayMeetAll : (Segment → Segment → Bool) → Mode → Grain → List Edge → List ℕ → Edge
+    → Type 0
+MayMeetAll before mode grain edges path f =
+    (m i : ℕ) (e : Edge) → slice_get path m ≡ Some i → slice_get edges i ≡ Some e
+    → may_meet before mode grain e f ≡ true
 
-module _ (before : Segment → Segment → Bool) (mode : Mode) (grain : Grain) (len : ℕ) (edges : List Edge) where
+module _ (before : Segment → Segment → Bool) (mode : Mode) (grain : Grain) (len : ℕ)
+    (edges : List Edge) where
   -- no cycle of this mode, of at most len of these edges, goes through edges that are alike to these
   abbrev pub NoCycleThrough : List ℕ → Type 0
-  NoCycleThrough path = (cycle : List Edge) (k : ℕ) → All (Contains edges) cycle → IsCycle before mode len cycle → ¬ GoesThrough grain edges cycle k path
+  NoCycleThrough path =
+      (cycle : List Edge) (k : ℕ) → All (Contains edges) cycle → IsCycle before mode len cycle
+      → ¬ GoesThrough grain edges cycle k path
 
   -- the flags are set at positions of edges to which none of a cycle is alike
   pub record AreDead (flags : List Bool) : Type 0 where
@@ -75,17 +88,24 @@ module _ (before : Segment → Segment → Bool) (mode : Mode) (grain : Grain) (
 
   -- each edge of such a cycle has a model
   abbrev pub CyclesHaveModels : List Bool → Type 0
-  CyclesHaveModels flags = (cycle : List Edge) (i : ℕ) (e : Edge) → All (Contains edges) cycle → IsCycle before mode len cycle → slice_get cycle i ≡ Some e → HasModel grain edges flags e
+  CyclesHaveModels flags =
+      (cycle : List Edge) (i : ℕ) (e : Edge) → All (Contains edges) cycle
+      → IsCycle before mode len cycle → slice_get cycle i ≡ Some e → HasModel grain edges flags e
 
   -- what is known where models that hold a lock were tried as the next edge of a path, up to the next one of them
-  pub record AreTried (flags : List Bool) (path : List ℕ) (lock : ℕ) (next : Option ℕ) : Type 0 where
+  pub record AreTried (flags : List Bool) (path : List ℕ) (lock : ℕ)
+      (next : Option ℕ) : Type 0 where
     pub reaches : unwrap_or next (length edges) ≤ length edges
-    pub holds : IfSome next (λ i. (i < length edges) × ((e : Edge) → slice_get edges i ≡ Some e → e.held ≡ lock))
-    pub tried : (i : ℕ) (e : Edge) → i < unwrap_or next (length edges) → slice_get edges i ≡ Some e → slice_get flags i ≡ Some true → e.held ≡ lock → NoCycleThrough (path ++ i ∷ [])
+    pub holds : IfSome next
+        (λ i. (i < length edges) × ((e : Edge) → slice_get edges i ≡ Some e → e.held ≡ lock))
+    pub tried : (i : ℕ) (e : Edge) → i < unwrap_or next (length edges) → slice_get edges i ≡ Some e
+        → slice_get flags i ≡ Some true → e.held ≡ lock → NoCycleThrough (path ++ i ∷ [])
 
 -- no cycle that is sought goes through edges that are alike to these
 abbrev pub NoneThrough : Rounds → List ℕ → Type 0
-NoneThrough r path = NoCycleThrough (is_before r.sought.order.now) r.sought.mode r.grain r.sought.len (edges_of_table r.sought.table.now) path
+NoneThrough r path =
+    NoCycleThrough (is_before r.sought.order.now) r.sought.mode r.grain r.sought.len
+    (edges_of_table r.sought.table.now) path
 
 -- the edges stand at positions of the table
 abbrev pub AreWithin : Rounds → List ℕ → Type 0
@@ -94,6 +114,7 @@ AreWithin r path = All (λ i. i < length r.sought.table.now) path
 -- rounds can be looked for
 pub record HasModels (r : Rounds) : Type 0 where
   pub long : length r.flags.items ≡ length r.sought.table.now
-  pub models : CyclesHaveModels (is_before r.sought.order.now) r.sought.mode r.grain r.sought.len (edges_of_table r.sought.table.now) r.flags.items
+  pub models : CyclesHaveModels (is_before r.sought.order.now) r.sought.mode r.grain r.sought.len
+      (edges_of_table r.sought.table.now) r.flags.items
   -- and the index leads through them
   pub indexed : IsIndexOf (edges_of_table r.sought.table.now) r.flags.items r.index

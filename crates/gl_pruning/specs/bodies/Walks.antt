@@ -30,7 +30,11 @@ label_at labels n = unwrap_or (slice_get labels n) 0
 
 -- a certificate: along each edge that is kept and goes with the one at x the label of a lock grows by one at the most, and from the
 -- lock that this one wants to the one that it holds by too much for the other edges of a cycle
-pub record ShowsNoWay (before : Segment → Segment → Bool) (mode : Mode) (len : ℕ) (edges : List Edge) (kept : List Bool) (ends : List Ends) (labels : List ℕ) (x : ℕ) : Type 0 where
-  pub far : (d : Ends) → slice_get ends x ≡ Some d → label_at labels d.wanted + len ≤ label_at labels d.held
-  pub near : (i : ℕ) (e f : Edge) (d : Ends) → slice_get edges i ≡ Some e → slice_get kept i ≡ Some true → slice_get ends i ≡ Some d → slice_get edges x ≡ Some f
+pub record ShowsNoWay (before : Segment → Segment → Bool) (mode : Mode) (len : ℕ)
+    (edges : List Edge) (kept : List Bool) (ends : List Ends) (labels : List ℕ)
+    (x : ℕ) : Type 0 where
+  pub far : (d : Ends) → slice_get ends x ≡ Some d
+      → label_at labels d.wanted + len ≤ label_at labels d.held
+  pub near : (i : ℕ) (e f : Edge) (d : Ends) → slice_get edges i ≡ Some e
+      → slice_get kept i ≡ Some true → slice_get ends i ≡ Some d → slice_get edges x ≡ Some f
       → goes_with before mode e f ≡ true → label_at labels d.wanted ≤ label_at labels d.held + 1

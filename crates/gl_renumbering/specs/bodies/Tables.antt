@@ -11,7 +11,8 @@ pub record IsTable (old new : List (List ℕ)) (table : List (Option ℕ)) : Typ
   pub size : length table ≡ length old
   pub few : length old < 2 ^ 32
   -- the number in it is the new one of the same name
-  pub each : (n number : ℕ) (name : List ℕ) → slice_get table n ≡ Some (Some number) → slice_get old n ≡ Some name → position (bytes_eq name) new ≡ Some number
+  pub each : (n number : ℕ) (name : List ℕ) → slice_get table n ≡ Some (Some number)
+      → slice_get old n ≡ Some name → position (bytes_eq name) new ≡ Some number
   -- the new names are different ones of the old
   pub differ : AllPairs (λ a b. a ≢ b) new
   pub among : All (Contains old) new
@@ -28,7 +29,8 @@ pub record StandsFor (old new : NameLists) (lock_table loc_table : List (Option 
 
 -- the names, and more of them
 abbrev pub with_more : NameLists → NameLists → NameLists
-with_more names more = record names { locks = names.locks ++ more.locks; locs = names.locs ++ more.locs }
+with_more names more =
+    record names { locks = names.locks ++ more.locks; locs = names.locs ++ more.locs }
 
 -- the event tells this tale by these names, and so it does once more of them are mentioned
 abbrev pub StaysToldBy : NameLists → Tale → Event → Type 0
@@ -36,8 +38,10 @@ StaysToldBy names tale event = (more : NameLists) → event ≡ event_by (with_m
 
 -- so do all of a list
 abbrev pub StayToldBy : NameLists → List Tale → List Event → Type 0
-StayToldBy names list events = (more : NameLists) → events ≡ map (event_by (with_more names more)) list
+StayToldBy names list events =
+    (more : NameLists) → events ≡ map (event_by (with_more names more)) list
 
 -- and all of several
 abbrev pub AllStayToldBy : NameLists → List (List Tale) → List (List Event) → Type 0
-AllStayToldBy names lists all = (more : NameLists) → all ≡ map (map (event_by (with_more names more))) lists
+AllStayToldBy names lists all =
+    (more : NameLists) → all ≡ map (map (event_by (with_more names more))) lists

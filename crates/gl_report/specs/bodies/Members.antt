@@ -47,4 +47,5 @@ with_question format asked members =
 -- with the cycles that were found, under this key, and whether there are more
 abbrev pub with_found : List ℕ → List (List ℕ) → Bool → Members → Members
 with_found key cycles more members =
-    put (codes "more") (boolean more) (put key (array (items_of (map positions_tree cycles))) members)
+    put (codes "more") (boolean more)
+    (put key (array (items_of (map positions_tree cycles))) members)

@@ -14,6 +14,9 @@ pub record AddsForks (old new : List Spawn) (from : ℕ) (es : List Event) : Typ
   -- what stood there stays
   pub kept : (s : Spawn) → Contains old s → Contains new s
   -- each fork was added
-  pub added : (i thread loc : ℕ) → slice_get es i ≡ Some (Fork thread loc) → Contains new (record { thread = thread; from = record { thread = from; index = i } })
+  pub added : (i thread loc : ℕ) → slice_get es i ≡ Some (Fork thread loc)
+      → Contains new (record { thread = thread; from = record { thread = from; index = i } })
   -- nothing else was added
-  pub only : (s : Spawn) → Contains new s → Contains old s ⊎ ((s.from.thread ≡ from) × ((loc : ℕ) × (slice_get es s.from.index ≡ Some (Fork s.thread loc))))
+  pub only : (s : Spawn) → Contains new s → Contains old s
+      ⊎ ((s.from.thread ≡ from)
+      × ((loc : ℕ) × (slice_get es s.from.index ≡ Some (Fork s.thread loc))))

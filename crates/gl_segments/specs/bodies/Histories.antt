@@ -24,11 +24,13 @@ tabulated (suc n) f = tabulated n f ++ f n ∷ []
 
 -- the count of a thread at the segment of this index of `own`: all earlier segments of that thread itself are before it
 abbrev pub count_along : ℕ → List ℕ → List Growth → ℕ → ℕ → ℕ
-count_along own first growths index thread = if thread == own then index else count_at (slice_index first thread) growths index thread
+count_along own first growths index thread =
+    if thread == own then index else count_at (slice_index first thread) growths index thread
 
 -- the clocks of so many segments of `own`, among so many threads
 unfoldable pub clocks_along : ℕ → ℕ → ℕ → List ℕ → List Growth → List (List ℕ)
-clocks_along own segments threads first growths = tabulated segments (λ index. tabulated threads (count_along own first growths index))
+clocks_along own segments threads first growths =
+    tabulated segments (λ index. tabulated threads (count_along own first growths index))
 
 -- no growth after another is of a lesser thread, or of the same one from an earlier segment
 abbrev pub IsAtMost : Growth → Growth → Type 0
@@ -37,18 +39,24 @@ IsAtMost g h = (g.thread < h.thread) ⊎ ((g.thread ≡ h.thread) × (g.from ≤
 -- the growths stand by thread, and those of a thread by segment
 pub record AreOrdered (growths : List Growth) : Type 0 where
   -- each is at most the next one
-  pub next : (k : ℕ) (d : Growth) → k + 1 < length growths → IsAtMost (slice_index_or growths k d) (slice_index_or growths (k + 1) d)
+  pub next : (k : ℕ) (d : Growth) → k + 1 < length growths
+      → IsAtMost (slice_index_or growths k d) (slice_index_or growths (k + 1) d)
 
 -- the growth is of a lesser thread, or of this one and this segment is past it
 abbrev pub is_up_to : ℕ → ℕ → Growth → Bool
 is_up_to index thread g = nat_lt g.thread thread || is_past index thread g
 
 -- a first clock, growths after it and the latest counts tell these clocks of the segments of `own`
-pub record Tells (own : ℕ) (first : List ℕ) (growths : List Growth) (latest : List ℕ) (clocks : List (List ℕ)) : Type 0 where
+pub record Tells (own : ℕ) (first : List ℕ) (growths : List Growth) (latest : List ℕ)
+    (clocks : List (List ℕ)) : Type 0 where
   -- at each segment, of each other thread, the clock's count
-  pub each : (index thread : ℕ) → index < length clocks → thread ≢ own → count_at (slice_index first thread) growths index thread ≡ slice_index (slice_index_or clocks index []) thread
+  pub each : (index thread : ℕ) → index < length clocks → thread ≢ own
+      → count_at (slice_index first thread) growths index thread
+      ≡ slice_index (slice_index_or clocks index []) thread
   -- at the next segment, so far, the latest count
-  pub now : (thread : ℕ) → thread ≢ own → count_at (slice_index first thread) growths (length clocks) thread ≡ slice_index latest thread
+  pub now : (thread : ℕ) → thread ≢ own
+      → count_at (slice_index first thread) growths (length clocks) thread
+      ≡ slice_index latest thread
   -- no growth is from later on
   pub until : All (λ g. g.from ≤ length clocks) growths
   -- they stand by segment
@@ -56,9 +64,11 @@ pub record Tells (own : ℕ) (first : List ℕ) (growths : List Growth) (latest 
   -- before the first clock there are none
   pub begins : length clocks ≡ 0 → growths ≡ []
   -- each clock has as many counts as the latest one
-  pub widths : (index : ℕ) → index < length clocks → length (slice_index_or clocks index []) ≡ length latest
+  pub widths : (index : ℕ) → index < length clocks
+      → length (slice_index_or clocks index []) ≡ length latest
   -- all earlier segments of the thread itself are before each
-  pub own_counts : (index : ℕ) → index < length clocks → slice_index (slice_index_or clocks index []) own ≡ index
+  pub own_counts : (index : ℕ) → index < length clocks
+      → slice_index (slice_index_or clocks index []) own ≡ index
 
 -- these are the clocks that came
 pub record IsNoted (g : Growing) (clocks : List (List ℕ)) : Type 0 where

@@ -9,13 +9,17 @@ use Rattle.gl_segments.specs.declared.faults.OrderFault.{OrderFault}
 use Rattle.gl_segments.specs.declared.faults.OrderFault.TheVariants.{Inconsistent, Memory}
 
 -- the clocks of the first segments of a thread, none of which is before itself
-pub record AreClocksBelow (steps : Sources) (thread : ℕ) (clocks : List (List ℕ)) (n : ℕ) : Type 0 where
+pub record AreClocksBelow (steps : Sources) (thread : ℕ) (clocks : List (List ℕ))
+    (n : ℕ) : Type 0 where
   -- there are n of them
   pub size : length clocks ≡ n
   -- each is its segment's clock
-  pub each : (i : ℕ) → i < n → IsClockOf steps (slice_index_or clocks i []) (record { thread = thread; index = i })
+  pub each : (i : ℕ) → i < n
+      → IsClockOf steps (slice_index_or clocks i []) (record { thread = thread; index = i })
   -- no segment of them is before itself
-  pub apart : (i : ℕ) → i < n → ¬ Precedes steps (record { thread = thread; index = i }) (record { thread = thread; index = i })
+  pub apart : (i : ℕ) → i < n
+      → ¬ Precedes steps (record { thread = thread; index = i })
+      (record { thread = thread; index = i })
 
 -- the clocks of the segments of a thread, none of which is before itself
 abbrev pub AreClocksOf : Sources → ℕ → List (List ℕ) → Type 0
@@ -30,7 +34,8 @@ pub record AreClocksTo (steps : Sources) (clocks : Clocks) (n : ℕ) : Type 0 wh
   pub each : (t : ℕ) → t < n → AreClocksOf steps t (slice_index_or clocks t [])
 
 -- this segment of the thread is before itself, along the ring that begins with it, and none of the thread's earlier ones is
-pub record IsFirstOfThread (steps : Sources) (thread : ℕ) (at : Segment) (ring : List Segment) : Type 0 where
+pub record IsFirstOfThread (steps : Sources) (thread : ℕ) (at : Segment)
+    (ring : List Segment) : Type 0 where
   -- it is of this thread
   pub same_thread : at.thread ≡ thread
   -- the rest of the ring
@@ -40,7 +45,9 @@ pub record IsFirstOfThread (steps : Sources) (thread : ℕ) (at : Segment) (ring
   -- the steps lead from it round to it
   pub rings : Leads (LeadsTo steps) at via at
   -- no earlier segment of the thread is before itself
-  pub first : (i : ℕ) → i < at.index → ¬ Precedes steps (record { thread = thread; index = i }) (record { thread = thread; index = i })
+  pub first : (i : ℕ) → i < at.index
+      → ¬ Precedes steps (record { thread = thread; index = i })
+      (record { thread = thread; index = i })
 
 -- the fault is one of this thread
 abbrev pub IsThreadFault : Sources → ℕ → OrderFault → Type 0

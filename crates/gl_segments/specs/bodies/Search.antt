@@ -36,12 +36,16 @@ pub record AreLinks (steps : Sources) (target : Segment) (found : List Link) : T
   -- the first is the target
   pub begins : (l : Link) × (slice_get found 0 ≡ Some l) × (l.segment ≡ target)
   -- each later one is one step before the earlier one to which it links
-  pub linked : (k : ℕ) (l : Link) → 0 < k → slice_get found k ≡ Some l → (l.next < k) × ((m : Link) × (slice_get found l.next ≡ Some m) × LeadsTo steps l.segment m.segment)
+  pub linked : (k : ℕ) (l : Link) → 0 < k → slice_get found k ≡ Some l
+      → (l.next < k) × ((m : Link) × (slice_get found l.next ≡ Some m)
+      × LeadsTo steps l.segment m.segment)
   -- each later one is before the target
-  pub precedes : (k : ℕ) (l : Link) → 0 < k → slice_get found k ≡ Some l → Precedes steps l.segment target
+  pub precedes : (k : ℕ) (l : Link) → 0 < k → slice_get found k ≡ Some l
+      → Precedes steps l.segment target
 
 -- how far a search for what is before the target has come, where it has looked at the first `done` of the entries found
-pub record Explores (steps : Sources) (target : Segment) (clock : List ℕ) (found : List Link) (done : ℕ) : Type 0 where
+pub record Explores (steps : Sources) (target : Segment) (clock : List ℕ) (found : List Link)
+    (done : ℕ) : Type 0 where
   -- the clock has a count for each thread
   pub width : length clock ≡ length steps
   -- the entries are links
@@ -53,7 +57,8 @@ pub record Explores (steps : Sources) (target : Segment) (clock : List ℕ) (fou
   -- the target itself is counted only where it was found
   pub met : Counts clock target → IsFound found target
   -- what is one step before an entry that was looked at is counted
-  pub looked : (k : ℕ) (l : Link) → k < done → slice_get found k ≡ Some l → CountsSources steps clock l.segment
+  pub looked : (k : ℕ) (l : Link) → k < done → slice_get found k ≡ Some l
+      → CountsSources steps clock l.segment
 
 -- each entry of what was found is of one of so many threads
 abbrev pub IsAmong : List Link → ℕ → Type 0
@@ -61,16 +66,20 @@ IsAmong found threads = (k : ℕ) (l : Link) → slice_get found k ≡ Some l �
 
 -- an entry of what was found is of this thread
 abbrev pub HasThread : List Link → ℕ → Type 0
-HasThread found thread = (k : ℕ) × (l : Link) × (slice_get found k ≡ Some l) × (l.segment.thread ≡ thread)
+HasThread found thread =
+    (k : ℕ) × (l : Link) × (slice_get found k ≡ Some l) × (l.segment.thread ≡ thread)
 
 -- each count of the new clock is the old one's, or an entry of what was found is of its thread
 abbrev pub GrowsBy : List ℕ → List Link → List ℕ → Type 0
-GrowsBy old found new = (thread : ℕ) → (slice_index new thread ≡ slice_index old thread) ⊎ HasThread found thread
+GrowsBy old found new =
+    (thread : ℕ) → (slice_index new thread ≡ slice_index old thread) ⊎ HasThread found thread
 
 -- the links of n segments of one thread, from s downwards: the first links to `next`, each other to the one before it, which stand from p on
 abbrev pub links_back : Segment → ℕ → ℕ → ℕ → List Link
 links_back s next p zero = []
-links_back s next p (suc n) = record { segment = s; next = next } ∷ links_back (record { thread = s.thread; index = s.index - 1 }) p (p + 1) n
+links_back s next p (suc n) =
+    record { segment = s; next = next }
+    ∷ links_back (record { thread = s.thread; index = s.index - 1 }) p (p + 1) n
 
 -- how many segments the clock doesn't count
 abbrev pub unseen : Sources → List ℕ → ℕ
@@ -81,4 +90,6 @@ unseen (r ∷ rows) (c ∷ clock) = (length r - c) + unseen rows clock
 -- from entry k on, these are the segments along the links, up to the first entry, which is left out
 abbrev pub FollowsLinks : List Link → ℕ → List Segment → Type 0
 FollowsLinks found k [] = k ≡ 0
-FollowsLinks found k (s ∷ rest) = (l : Link) × (0 < k) × (slice_get found k ≡ Some l) × (l.segment ≡ s) × FollowsLinks found l.next rest
+FollowsLinks found k (s ∷ rest) =
+    (l : Link) × (0 < k) × (slice_get found k ≡ Some l) × (l.segment ≡ s)
+    × FollowsLinks found l.next rest

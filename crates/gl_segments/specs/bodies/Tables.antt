@@ -43,14 +43,16 @@ pub record IsSound (steps : Sources) : Type 0 where
   -- a step leads from a segment of the table
   pub inside : (a b : Segment) → LeadsTo steps a b → Has steps a
   -- a thread's segment is one step before its next one
-  pub next : (a b : Segment) → Has steps b → b.thread ≡ a.thread → b.index ≡ a.index + 1 → LeadsTo steps a b
+  pub next : (a b : Segment) → Has steps b → b.thread ≡ a.thread → b.index ≡ a.index + 1
+      → LeadsTo steps a b
 
 -- the table has exactly the steps of the lists
 pub record ShowsSteps (lists : List (List Event)) (steps : Sources) : Type 0 where
   -- it has the threads of the lists
   pub threads : length steps ≡ length lists
   -- it has the segments of the lists
-  pub segments : (thread : ℕ) (es : List Event) → slice_get lists thread ≡ Some es → length (steps_of_thread steps thread) ≡ segment es + 1
+  pub segments : (thread : ℕ) (es : List Event) → slice_get lists thread ≡ Some es
+      → length (steps_of_thread steps thread) ≡ segment es + 1
   -- each step of the lists is one of the table
   pub forward : (a b : Segment) → IsStep lists a b → LeadsTo steps a b
   -- each step of the table is one of the lists
@@ -65,7 +67,8 @@ pub record AreSmall (cuts : List (List Event)) : Type 0 where
   -- at most 1,024 lists
   pub few : length cuts ≤ MAX_THREADS
   -- the segments of each can be counted by a u32
-  pub small : (thread : ℕ) (es : List Event) → slice_get cuts thread ≡ Some es → length es + 1 < 2 ^ 32
+  pub small : (thread : ℕ) (es : List Event) → slice_get cuts thread ≡ Some es
+      → length es + 1 < 2 ^ 32
 
 -- the fork or join that closes the segment
 abbrev pub cut_at : List (List Event) → Segment → Option Event
@@ -81,13 +84,18 @@ joined_last cuts (Acquire mode lock loc) = []
 joined_last cuts (Release mode lock loc) = []
 joined_last cuts (TryAcquire mode lock loc) = []
 joined_last cuts (Fork thread loc) = []
-joined_last cuts (Join thread loc) = option_map_or (λ es. record { thread = thread; index = length es } ∷ []) (slice_get cuts thread) []
+joined_last cuts (Join thread loc) =
+    option_map_or (λ es. record { thread = thread; index = length es } ∷ [])
+    (slice_get cuts thread) []
 
 -- these are the steps of a thread with these forks and joins: what is one step before each of its segments
-pub record AreStepsOfThread (cuts : List (List Event)) (thread : ℕ) (es : List Event) (sources : List (List Segment)) : Type 0 where
+pub record AreStepsOfThread (cuts : List (List Event)) (thread : ℕ) (es : List Event)
+    (sources : List (List Segment)) : Type 0 where
   -- one for each segment
   pub size : length sources ≡ length es + 1
   -- before the first: the segments that forks of the thread close
   pub first : (a : Segment) → Contains (slice_index_or sources 0 []) a ↔ Forks cuts thread a
   -- before a later one: the thread's segment before it, and what was joined there
-  pub later : (i : ℕ) (e : Event) → slice_get es i ≡ Some e → slice_index_or sources (i + 1) [] ≡ record { thread = thread; index = i } ∷ joined_last cuts e
+  pub later : (i : ℕ) (e : Event) → slice_get es i ≡ Some e
+      → slice_index_or sources (i + 1) [] ≡ record { thread = thread; index = i }
+      ∷ joined_last cuts e

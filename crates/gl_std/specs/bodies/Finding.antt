@@ -30,7 +30,9 @@ found_in names operation thread operand location =
     let number = position (bytes_eq thread) names.threads in
     record {
       thread = number;
-      operand = position (bytes_eq operand) (if is_on_thread operation then with_name names.threads number thread else names.locks);
+      operand =
+          position (bytes_eq operand)
+          (if is_on_thread operation then with_name names.threads number thread else names.locks);
       loc = position (bytes_eq location) names.locs;
     }
 
@@ -47,11 +49,13 @@ if_new number = if is_none number then 1 else 0
 -- how many threads there are after the line
 abbrev pub threads_after : NameLists → Operation → Found → ℕ
 threads_after names operation found =
-    length names.threads + if_new found.thread + (if is_on_thread operation then if_new found.operand else 0)
+    length names.threads + if_new found.thread
+    + (if is_on_thread operation then if_new found.operand else 0)
 
 -- how many locks there are after the line
 abbrev pub locks_after : NameLists → Operation → Found → ℕ
-locks_after names operation found = length names.locks + (if is_on_thread operation then 0 else if_new found.operand)
+locks_after names operation found =
+    length names.locks + (if is_on_thread operation then 0 else if_new found.operand)
 
 -- the lists, with one for a new thread that is forked or joined
 abbrev pub with_partner : List (List Event) → Operation → Found → List (List Event)
@@ -66,11 +70,15 @@ with_lists lists operation found event =
 -- the operand's number: a new name gets the next one, and a new thread's comes after the acting thread's
 abbrev pub operand_number : NameLists → Operation → Found → ℕ
 operand_number names operation found =
-    unwrap_or found.operand (if is_on_thread operation then length names.threads + if_new found.thread else length names.locks)
+    unwrap_or found.operand
+    (if is_on_thread operation then length names.threads + if_new found.thread
+    else length names.locks)
 
 -- the event that a line tells: a new name gets the next number
 abbrev pub event_found : NameLists → Operation → Found → Event
-event_found names operation found = event_of operation (operand_number names operation found) (unwrap_or found.loc (length names.locs))
+event_found names operation found =
+    event_of operation (operand_number names operation found)
+    (unwrap_or found.loc (length names.locs))
 
 -- the first limit that doesn't allow an event, where there are these names and the thread has so many events
 abbrev pub limit_found : Bounds → NameLists → ℕ → Operation → Found → Option StdKind
@@ -83,7 +91,8 @@ limit_found limits names events operation found =
 
 -- the first limit that doesn't allow the event
 abbrev pub limit_fault : Bounds → Trace → Operation → Found → Option StdKind
-limit_fault limits told operation found = limit_found limits told.names (length (events_of told.lists found.thread)) operation found
+limit_fault limits told operation found =
+    limit_found limits told.names (length (events_of told.lists found.thread)) operation found
 
 -- what becomes of an event: the locks' reasons come before the limits', and the last one is that a lock that is
 -- released isn't held
@@ -101,7 +110,9 @@ with_names names operation found thread operand location =
     let threads = with_name names.threads found.thread thread in
     record {
       threads = if is_on_thread operation then with_name threads found.operand operand else threads;
-      locks = if is_on_thread operation then names.locks else with_name names.locks found.operand operand;
+      locks =
+          if is_on_thread operation then names.locks
+          else with_name names.locks found.operand operand;
       locs = with_name names.locs found.loc location;
     }
 
@@ -112,10 +123,15 @@ after_ruling line told kept Stray = Ok (record told { stray = told.stray + 1 })
 after_ruling line told kept (Fault kind) = Err (Line line kind)
 
 -- the trace after an event, by what is found
-abbrev pub after_found : Bounds → ℕ → Trace → Operation → List ℕ → List ℕ → List ℕ → Result Trace ReadFault
+abbrev pub after_found : Bounds → ℕ → Trace → Operation → List ℕ → List ℕ → List ℕ
+    → Result Trace ReadFault
 after_found limits line told operation thread operand location =
     let found = found_in told.names operation thread operand location in
     let event = event_found told.names operation found in
     after_ruling line told
-    (record told { names = with_names told.names operation found thread operand location; lists = with_lists told.lists operation found event })
-    (ruling_of (lock_refusal (events_of told.lists found.thread) event) (limit_fault limits told operation found))
+    (record told {
+      names = with_names told.names operation found thread operand location;
+      lists = with_lists told.lists operation found event;
+    })
+    (ruling_of (lock_refusal (events_of told.lists found.thread) event)
+    (limit_fault limits told operation found))

@@ -14,8 +14,11 @@ use Rattle.gl_std.specs.declared.trace.Trace.{Trace}
 
 -- this was heard where the last step brought that: of whatever text was read by then, and whatever trace its lines told that has
 -- these lists
-abbrev pub Hears : Position → Bool → LineReader → List (List Event) → Result Step LinesFault → Position → Bool → Heard → Type 0
-Hears now failed f lists step later failed_later heard = (limits : Bounds) (turns : ℕ) (start : Position) (text : List ℕ) (told : Trace) → HasStepped limits turns start now failed f text told step → lists ≡ told.lists
+abbrev pub Hears : Position → Bool → LineReader → List (List Event) → Result Step LinesFault
+    → Position → Bool → Heard → Type 0
+Hears now failed f lists step later failed_later heard =
+    (limits : Bounds) (turns : ℕ) (start : Position) (text : List ℕ) (told : Trace)
+    → HasStepped limits turns start now failed f text told step → lists ≡ told.lists
     → HasHeard limits turns start later failed_later heard
 
 -- reading goes on: some text was read, whose lines told a trace with these lists
@@ -29,7 +32,8 @@ pub record IsReading (limits : Bounds) (turns : ℕ) (start now : Position) (f :
 -- it still does, wherever the text began
 abbrev pub IsStillReading : Position → LineReader → List (List Event) → Position → LineReader
     → List (List Event) → Type 0
-IsStillReading now old lists later new lists_later = (limits : Bounds) (turns : ℕ) (start : Position)
+IsStillReading now old lists later new lists_later =
+    (limits : Bounds) (turns : ℕ) (start : Position)
     → IsReading limits turns start now old lists
     → IsReading limits turns start later new lists_later
 

@@ -13,15 +13,19 @@ use Rattle.gl_std.specs.declared.trace.Trace.{Trace}
 
 -- what comes after each of them is that trace with what the line is judged to be
 abbrev pub TellsAs : Judge → Judge → (Trace → Result Trace ReadFault) → Judged → Type 0
-TellsAs old new after judged = (told : Trace) → HasJudged old told → after told ≡ Ok (with_judged judged new.names told)
+TellsAs old new after judged =
+    (told : Trace) → HasJudged old told → after told ≡ Ok (with_judged judged new.names told)
 
 -- the judge stands for each of them with that
 abbrev pub HasJudgedMore : Judge → Judge → Judged → Type 0
-HasJudgedMore old new judged = (told : Trace) → HasJudged old told → HasJudged new (with_judged judged new.names told)
+HasJudgedMore old new judged =
+    (told : Trace) → HasJudged old told → HasJudged new (with_judged judged new.names told)
 
 -- a fault that is answered is what comes after each of them
 abbrev pub FailsAs : Judge → (Trace → Result Trace ReadFault) → Result Judged ReadFault → Type 0
-FailsAs old after result = (number : ℕ) (kind : StdKind) → result ≡ Err (Line number kind) → (told : Trace) → HasJudged old told → after told ≡ Err (Line number kind)
+FailsAs old after result =
+    (number : ℕ) (kind : StdKind) → result ≡ Err (Line number kind) → (told : Trace)
+    → HasJudged old told → after told ≡ Err (Line number kind)
 
 -- a line is judged, where `after` tells what comes after a trace
 pub record JudgesLine (old new : Judge) (after : Trace → Result Trace ReadFault)

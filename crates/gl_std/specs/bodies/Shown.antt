@@ -20,4 +20,5 @@ abbrev pub shown : ShapeValue → Shape
 shown BlankValue = Blank
 shown (BadValue kind) = Bad kind
 shown OtherValue = Other
-shown (CallValue operation thread operand location) = Call (shown_operation operation) thread.now operand.now location.now
+shown (CallValue operation thread operand location) =
+    Call (shown_operation operation) thread.now operand.now location.now

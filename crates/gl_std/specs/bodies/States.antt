@@ -20,7 +20,15 @@ use Rattle.gl_std.specs.declared.trace.Trace.{Trace}
 
 -- what a judge knows
 abbrev pub judge_of : Judge → judging.Judge
-judge_of j = record { limits = j.limits; names = j.names; standings = j.standings.items; skipped = j.skipped; stray = j.stray; line = j.line }
+judge_of j =
+    record {
+      limits = j.limits;
+      names = j.names;
+      standings = j.standings.items;
+      skipped = j.skipped;
+      stray = j.stray;
+      line = j.line;
+    }
 
 abbrev pub HasJudged : Judge → Trace → Type 0
 HasJudged j told = judging.HasJudged (judge_of j) told
@@ -36,7 +44,13 @@ left_of f = drop f.start (take f.end f.buffer.items)
 
 -- what a reader knows
 abbrev pub reader_of : LineReader → line_reading.LineReader
-reader_of f = record { judge = judge_of f.judge; beginning = f.unfinished.items; left = left_of f; turns = f.turns }
+reader_of f =
+    record {
+      judge = judge_of f.judge;
+      beginning = f.unfinished.items;
+      left = left_of f;
+      turns = f.turns;
+    }
 
 abbrev pub Reaches : Judge → List ℕ → List ℕ → Trace → Type 0
 Reaches j beginning seen told = line_reading.Reaches (judge_of j) beginning seen told
@@ -45,7 +59,8 @@ abbrev pub IsAt : LineReader → List ℕ → Trace → Type 0
 IsAt f text told = line_reading.IsAt (reader_of f) text told
 
 abbrev pub ReadsOn : Bounds → ℕ → Position → Position → LineReader → List ℕ → Trace → Type 0
-ReadsOn limits turns start now f text told = line_reading.ReadsOn limits turns start now (reader_of f) text told
+ReadsOn limits turns start now f text told =
+    line_reading.ReadsOn limits turns start now (reader_of f) text told
 
 abbrev pub IsOver : LineReader → List ℕ → Trace → Type 0
 IsOver f text told = lasts.IsOver (reader_of f) text told

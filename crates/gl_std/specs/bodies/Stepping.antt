@@ -38,8 +38,10 @@ HasFilled true turns start now failed f text = HasGiven turns start now f.turns 
 HasFilled false turns start now failed f text = HasRead turns start now failed text true
 
 -- what a read gave: it gave some bytes, which begin in the buffer and lie in it, or it met the end and left nothing
-pub record HasFilledBuffer (now : Position) (old : LineReader) (later : Position) (failed : Bool) (new : LineReader) (more : Bool) : Type 0 where
-  pub filled : (turns : ℕ) (start : Position) (text : List ℕ) → HasGiven turns start now old.turns text → HasFilled more turns start later failed new text
+pub record HasFilledBuffer (now : Position) (old : LineReader) (later : Position) (failed : Bool)
+    (new : LineReader) (more : Bool) : Type 0 where
+  pub filled : (turns : ℕ) (start : Position) (text : List ℕ)
+      → HasGiven turns start now old.turns text → HasFilled more turns start later failed new text
   pub sound : failed ≡ false
   pub turn : new.turns + 1 ≡ old.turns
   pub begin : new.start ≡ 0
@@ -48,10 +50,13 @@ pub record HasFilledBuffer (now : Position) (old : LineReader) (later : Position
 
 -- a read that failed, after whatever text was read before
 abbrev pub HasBroken : Position → LineReader → Position → Bool → Type 0
-HasBroken now old later failed = (turns : ℕ) (start : Position) (text : List ℕ) → HasGiven turns start now old.turns text → HasRead turns start later failed text false
+HasBroken now old later failed =
+    (turns : ℕ) (start : Position) (text : List ℕ) → HasGiven turns start now old.turns text
+    → HasRead turns start later failed text false
 
 -- one read
-abbrev pub IsRead : Position → LineReader → Position → Bool → LineReader → Result Bool Failed → Type 0
+abbrev pub IsRead : Position → LineReader → Position → Bool → LineReader → Result Bool Failed
+    → Type 0
 IsRead now old later failed new (Ok more) = HasFilledBuffer now old later failed new more
 IsRead now old later failed new (Err fault) = HasBroken now old later failed
 
@@ -62,32 +67,46 @@ pub record OnlyReads (old new : LineReader) : Type 0 where
   pub same_size : vec_len new.buffer ≡ vec_len old.buffer
 
 -- the rest was read and not judged, to its end or not
-pub record HasDrained (turns : ℕ) (start now : Position) (failed : Bool) (text : List ℕ) (whole : Bool) : Type 0 where
+pub record HasDrained (turns : ℕ) (start now : Position) (failed : Bool) (text : List ℕ)
+    (whole : Bool) : Type 0 where
   pub piece : List ℕ
   pub read : HasRead turns start now failed (text ++ piece) whole
 
 -- what a step tells where the reads gave this text by then, and its lines before that step told this trace
-abbrev pub HasStepped : Bounds → ℕ → Position → Position → Bool → LineReader → List ℕ → Trace → Result Step LinesFault → Type 0
-HasStepped limits turns start now failed f text told (Ok More) = ReadsOn limits turns start now f text told
-HasStepped limits turns start now failed f text told (Ok (Told judged)) = ReadsOn limits turns start now f text (with_judged judged f.judge.names told)
-HasStepped limits turns start now failed f text told (Ok End) = HasRead turns start now failed text true × (f.judge.limits ≡ limits) × IsOver f text told
-HasStepped limits turns start now failed f text told (Err (Line number kind)) = HasGiven turns start now f.turns text × IsFaulty limits text number kind
-HasStepped limits turns start now failed f text told (Err Read) = HasRead turns start now failed text false × (trace_of limits (ended_lines text) ≡ Ok told) × HasJudged f.judge told
+abbrev pub HasStepped : Bounds → ℕ → Position → Position → Bool → LineReader → List ℕ → Trace
+    → Result Step LinesFault → Type 0
+HasStepped limits turns start now failed f text told (Ok More) =
+    ReadsOn limits turns start now f text told
+HasStepped limits turns start now failed f text told (Ok (Told judged)) =
+    ReadsOn limits turns start now f text (with_judged judged f.judge.names told)
+HasStepped limits turns start now failed f text told (Ok End) =
+    HasRead turns start now failed text true × (f.judge.limits ≡ limits) × IsOver f text told
+HasStepped limits turns start now failed f text told (Err (Line number kind)) =
+    HasGiven turns start now f.turns text × IsFaulty limits text number kind
+HasStepped limits turns start now failed f text told (Err Read) =
+    HasRead turns start now failed text false × (trace_of limits (ended_lines text) ≡ Ok told)
+    × HasJudged f.judge told
 HasStepped limits turns start now failed f text told (Err Memory) = Unit {0}
 
 -- a step from such a text on, which may have read a piece more
-pub record Steps (limits : Bounds) (turns : ℕ) (start now : Position) (failed : Bool) (f : LineReader) (text : List ℕ) (told : Trace) (result : Result Step LinesFault) : Type 0 where
+pub record Steps (limits : Bounds) (turns : ℕ) (start now : Position) (failed : Bool)
+    (f : LineReader) (text : List ℕ) (told : Trace) (result : Result Step LinesFault) : Type 0 where
   pub piece : List ℕ
   pub stepped : HasStepped limits turns start now failed f (text ++ piece) told result
 
 -- a step of a reader over its source, from whatever text it was told and whatever trace
-abbrev pub StepsOn : Position → LineReader → Position → Bool → LineReader → Result Step LinesFault → Type 0
-StepsOn before old now failed new result = (limits : Bounds) (turns : ℕ) (start : Position) (text : List ℕ) (told : Trace) → ReadsOn limits turns start before old text told
+abbrev pub StepsOn : Position → LineReader → Position → Bool → LineReader → Result Step LinesFault
+    → Type 0
+StepsOn before old now failed new result =
+    (limits : Bounds) (turns : ℕ) (start : Position) (text : List ℕ) (told : Trace)
+    → ReadsOn limits turns start before old text told
     → Steps limits turns start now failed new text told result
 
 -- the rest was read after whatever text was read before
 abbrev pub DrainsOn : Position → LineReader → Position → Bool → Bool → Type 0
-DrainsOn now old later failed whole = (turns : ℕ) (start : Position) (text : List ℕ) → HasGiven turns start now old.turns text → HasDrained turns start later failed text whole
+DrainsOn now old later failed whole =
+    (turns : ℕ) (start : Position) (text : List ℕ) → HasGiven turns start now old.turns text
+    → HasDrained turns start later failed text whole
 
 -- where a step tells an event, its thread is one of so many
 abbrev pub IsKnownStep : ℕ → Result Step LinesFault → Type 0
@@ -104,7 +123,8 @@ StepLeaves (Err Read) failed f = Unit {0}
 StepLeaves (Err Memory) failed f = Unit {0}
 
 -- a step of a reader, or some in a row, with the source at one position before and at the other after
-pub record IsStep (now : Position) (old : LineReader) (later : Position) (failed : Bool) (new : LineReader) (result : Result Step LinesFault) : Type 0 where
+pub record IsStep (now : Position) (old : LineReader) (later : Position) (failed : Bool)
+    (new : LineReader) (result : Result Step LinesFault) : Type 0 where
   -- it goes on from whatever text was read, and whatever trace its lines told
   pub tells : StepsOn now old later failed new result
   pub known : IsKnownStep (length new.judge.names.threads) result

@@ -16,8 +16,10 @@ use Rattle.gl_std.specs.declared.trace.Trace.{Trace}
 -- ---- a line that LF ends
 
 -- a line that LF ends is judged: whatever lines told whatever trace, with this one they tell what it adds to that
-pub record HasEndedLine (old : Judge) (beginning end : List ℕ) (new : Judge) (later : List ℕ) (judged : Judged) : Type 0 where
-  pub reaches : (seen : List ℕ) (told : Trace) → Reaches old beginning seen told → Reaches new later (seen ++ end ++ LF ∷ []) (with_judged judged new.names told)
+pub record HasEndedLine (old : Judge) (beginning end : List ℕ) (new : Judge) (later : List ℕ)
+    (judged : Judged) : Type 0 where
+  pub reaches : (seen : List ℕ) (told : Trace) → Reaches old beginning seen told
+      → Reaches new later (seen ++ end ++ LF ∷ []) (with_judged judged new.names told)
   pub known : IsKnown judged (length new.names.threads)
   pub sound : IsSound new
   -- nothing is known yet of the line after it
@@ -27,7 +29,9 @@ pub record HasEndedLine (old : Judge) (beginning end : List ℕ) (new : Judge) (
 -- what becomes of a line that ends so, where so much is known of its beginning: it is judged, or it is the first one at fault
 abbrev pub EndsLine : Judge → List ℕ → List ℕ → Judge → List ℕ → Result Judged ReadFault → Type 0
 EndsLine old beginning end new later (Ok judged) = HasEndedLine old beginning end new later judged
-EndsLine old beginning end new later (Err (Line number kind)) = (seen : List ℕ) (told : Trace) → Reaches old beginning seen told → IsFaulty old.limits (seen ++ end ++ LF ∷ []) number kind
+EndsLine old beginning end new later (Err (Line number kind)) =
+    (seen : List ℕ) (told : Trace) → Reaches old beginning seen told
+    → IsFaulty old.limits (seen ++ end ++ LF ∷ []) number kind
 EndsLine old beginning end new later (Err Memory) = Unit {0}
 
 -- ---- the lines of a read
@@ -42,7 +46,8 @@ pub record CanTakeLines (f : LineReader) : Type 0 where
 
 -- a line was taken off what is left: where a text had told a trace, it tells what the line adds to that
 pub record HasTakenLine (old new : LineReader) (judged : Judged) : Type 0 where
-  pub at : (text : List ℕ) (told : Trace) → IsAt old text told → IsAt new text (with_judged judged new.judge.names told)
+  pub at : (text : List ℕ) (told : Trace) → IsAt old text told
+      → IsAt new text (with_judged judged new.judge.names told)
   pub known : IsKnown judged (length new.judge.names.threads)
   pub further : old.start < new.start
   pub line : new.judge.line ≡ old.judge.line + 1
@@ -59,7 +64,8 @@ pub record HasTakenRest (old new : LineReader) : Type 0 where
 abbrev pub TakesLine : LineReader → LineReader → Result (Option Judged) ReadFault → Type 0
 TakesLine old new (Ok (Some judged)) = HasTakenLine old new judged
 TakesLine old new (Ok None) = HasTakenRest old new
-TakesLine old new (Err (Line number kind)) = (text : List ℕ) (told : Trace) → IsAt old text told → IsFaulty old.judge.limits text number kind
+TakesLine old new (Err (Line number kind)) =
+    (text : List ℕ) (told : Trace) → IsAt old text told → IsFaulty old.judge.limits text number kind
 TakesLine old new (Err Memory) = Unit {0}
 
 -- nothing was read, and the limits are the same
@@ -73,12 +79,16 @@ pub record OnlyTakes (old new : LineReader) : Type 0 where
 
 -- the last line is judged, or there is none: where a text had told a trace before it, all of it tells what the line adds to that
 pub record HasTakenLast (old new : LineReader) (judged : Judged) : Type 0 where
-  pub trace : (text : List ℕ) (told : Trace) → IsOver old text told → trace_of old.judge.limits text ≡ Ok (with_judged judged new.judge.names told)
-  pub has_judged : (text : List ℕ) (told : Trace) → IsOver old text told → HasJudged new.judge (with_judged judged new.judge.names told)
+  pub trace : (text : List ℕ) (told : Trace) → IsOver old text told
+      → trace_of old.judge.limits text ≡ Ok (with_judged judged new.judge.names told)
+  pub has_judged : (text : List ℕ) (told : Trace) → IsOver old text told
+      → HasJudged new.judge (with_judged judged new.judge.names told)
   pub known : IsKnown judged (length new.judge.names.threads)
 
 -- what the last line is of a text of which no more comes; or it is the first one at fault
 abbrev pub TakesLast : LineReader → LineReader → Result Judged ReadFault → Type 0
 TakesLast old new (Ok judged) = HasTakenLast old new judged
-TakesLast old new (Err (Line number kind)) = (text : List ℕ) (told : Trace) → IsOver old text told → trace_of old.judge.limits text ≡ Err (Line number kind)
+TakesLast old new (Err (Line number kind)) =
+    (text : List ℕ) (told : Trace) → IsOver old text told
+    → trace_of old.judge.limits text ≡ Err (Line number kind)
 TakesLast old new (Err Memory) = Unit {0}

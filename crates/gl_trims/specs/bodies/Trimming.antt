@@ -27,7 +27,8 @@ pub record AreFlagsOf (size : ℕ) (gone : List Bool) (removed : List ℕ) : Typ
 -- one more watches a hint, if there is one
 abbrev pub watched_at : Option ℕ → ℕ → List (List ℕ) → List (List ℕ)
 watched_at None watcher watchers = watchers
-watched_at (Some hint) watcher watchers = set watchers hint (get_or watchers hint [] ++ watcher ∷ [])
+watched_at (Some hint) watcher watchers =
+    set watchers hint (get_or watchers hint [] ++ watcher ∷ [])
 
 -- nobody watches this position any more
 pub record IsWoken (position : ℕ) (old new : Hints) : Type 0 where
@@ -56,24 +57,33 @@ module _ (gone : List Bool) where
   pub record AreAwake (size : ℕ) (sides : Sides) (waiting : Waiting) : Type 0 where
     pub earlier : AreEarlier waiting
     pub within : waiting.next ≤ size
-    pub hinted : (i : ℕ) (side : Side) → i < size → slice_get gone i ≡ Some false → waits waiting i ≡ false → HasHint (hints_of side sides) i
+    pub hinted : (i : ℕ) (side : Side) → i < size → slice_get gone i ≡ Some false
+        → waits waiting i ≡ false → HasHint (hints_of side sides) i
 
-module _ (before : Segment → Segment → Bool) (mode : Mode) (edges : List Edge) (gone : List Bool) where
+module _ (before : Segment → Segment → Bool) (mode : Mode) (edges : List Edge)
+    (gone : List Bool) where
   module _ (side : Side) where
     -- no edge below a position is left that may come beside the edge at i
     abbrev pub NoneBeside : ℕ → ℕ → Type 0
     NoneBeside i to =
-        (q : ℕ) (e f : Edge) → q < to → slice_get edges i ≡ Some e → slice_get edges q ≡ Some f → slice_get gone q ≡ Some false → is_beside before mode side e f ≡ false
+        (q : ℕ) (e f : Edge) → q < to → slice_get edges i ≡ Some e → slice_get edges q ≡ Some f
+        → slice_get gone q ≡ Some false → is_beside before mode side e f ≡ false
 
     -- no edge before this position is left that may come beside the edge at i; the one there shares a lock with it
     pub record IsStart (i : ℕ) (from : Option ℕ) : Type 0 where
       pub passed : NoneBeside i (unwrap_or from (length edges))
-      pub shares : IfSome from (λ p. (p < length edges) × ((e f : Edge) → slice_get edges i ≡ Some e → slice_get edges p ≡ Some f → lock_towards (opposite side) f ≡ lock_towards side e))
+      pub shares : IfSome from
+          (λ p. (p < length edges)
+          × ((e f : Edge) → slice_get edges i ≡ Some e → slice_get edges p ≡ Some f
+          → lock_towards (opposite side) f ≡ lock_towards side e))
 
     -- and the one there may come beside it, or might have before it was gone
     pub record IsHint (i : ℕ) (hint : Option ℕ) : Type 0 where
       pub passed : NoneBeside i (unwrap_or hint (length edges))
-      pub fits : IfSome hint (λ p. (p < length edges) × ((e f : Edge) → slice_get edges i ≡ Some e → slice_get edges p ≡ Some f → is_beside before mode side e f ≡ true))
+      pub fits : IfSome hint
+          (λ p. (p < length edges)
+          × ((e f : Edge) → slice_get edges i ≡ Some e → slice_get edges p ≡ Some f
+          → is_beside before mode side e f ≡ true))
 
     -- what was found of an edge is a hint, and the edge watches it as long as it is left
     pub record AreHints (hints : Hints) : Type 0 where
@@ -82,12 +92,14 @@ module _ (before : Segment → Segment → Bool) (mode : Mode) (edges : List Edg
       pub users : AreUsers (opposite side) edges [] (length edges) hints.users
       pub chain : AreChained (opposite side) edges 0 hints.chain
       pub each : (i p : ℕ) → slice_get hints.found.items i ≡ Some (Some p) → IsHint i (Some p)
-      pub watched : (i p : ℕ) → slice_get hints.found.items i ≡ Some (Some p) → slice_get gone p ≡ Some false → Contains (get_or hints.watchers p []) i
+      pub watched : (i p : ℕ) → slice_get hints.found.items i ≡ Some (Some p)
+          → slice_get gone p ≡ Some false → Contains (get_or hints.watchers p []) i
 
     -- whether an edge is left that may come beside the edge at i
     pub record HasBesideAt (i : ℕ) (found : List (Option ℕ)) (has : Bool) : Type 0 where
       pub some : has ≡ true → HasHint gone found i
-      pub none : has ≡ false → (e : Edge) → slice_get edges i ≡ Some e → ¬ HasBeside before mode edges (IsFlagged gone) side e
+      pub none : has ≡ false → (e : Edge) → slice_get edges i ≡ Some e
+          → ¬ HasBeside before mode edges (IsFlagged gone) side e
 
   -- on both sides
   pub record AreBothHints (sides : Sides) : Type 0 where
@@ -97,14 +109,18 @@ module _ (before : Segment → Segment → Bool) (mode : Mode) (edges : List Edg
   -- whether the edge at i is stuck
   pub record TellsStuck (sides : Sides) (i : ℕ) (stuck : Bool) : Type 0 where
     pub yes : stuck ≡ true → IsStuck before mode edges (IsFlagged gone) i
-    pub no : stuck ≡ false → slice_get gone i ≡ Some false → (side : Side) → HasHint gone (hints_of side sides) i
+    pub no : stuck ≡ false → slice_get gone i ≡ Some false → (side : Side)
+        → HasHint gone (hints_of side sides) i
 
   -- each edge below a position that isn't gone has a follower and a leader left
   abbrev pub AreSettled : ℕ → Type 0
-  AreSettled n = (j : ℕ) (e : Edge) (side : Side) → j < n → slice_get edges j ≡ Some e → slice_get gone j ≡ Some false → HasBeside before mode edges (IsFlagged gone) side e
+  AreSettled n =
+      (j : ℕ) (e : Edge) (side : Side) → j < n → slice_get edges j ≡ Some e
+      → slice_get gone j ≡ Some false → HasBeside before mode edges (IsFlagged gone) side e
 
 -- what is known where these of the edges were taken away
-pub record AreTaken (before : Segment → Segment → Bool) (mode : Mode) (edges : List Edge) (size : ℕ) (gone : List Bool) (sides : Sides) (waiting : Waiting) (removed : List ℕ) : Type 0 where
+pub record AreTaken (before : Segment → Segment → Bool) (mode : Mode) (edges : List Edge) (size : ℕ)
+    (gone : List Bool) (sides : Sides) (waiting : Waiting) (removed : List ℕ) : Type 0 where
   pub flags : AreFlagsOf (length edges) gone removed
   pub hints : AreBothHints before mode edges gone sides
   pub awake : AreAwake gone size sides waiting

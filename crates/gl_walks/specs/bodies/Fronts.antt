@@ -32,7 +32,8 @@ stays_above Front e f = true
 abbrev pub may_follow : Purpose → (Segment → Segment → Bool) → Mode → List Edge → Edge → Bool
 may_follow purpose before mode [] f = true
 may_follow purpose before mode (e ∷ es) f =
-    leads_to (last_of e es) f && (list_all (λ d. goes_by purpose before mode d f) (e ∷ es) && stays_above purpose e f)
+    leads_to (last_of e es) f
+    && (list_all (λ d. goes_by purpose before mode d f) (e ∷ es) && stays_above purpose e f)
 
 -- a walk may begin with these edges, as far as they alone tell
 abbrev pub passes : Purpose → (Segment → Segment → Bool) → Mode → List Edge → Bool
@@ -68,7 +69,8 @@ sought_by area purpose pattern = record {
 
 -- a walk that is looked for
 abbrev pub IsSought : Sought → List ℕ → Type 0
-IsSought s positions = IsWalk s.purpose s.before s.mode s.edges s.classes s.flags s.pattern positions
+IsSought s positions =
+    IsWalk s.purpose s.before s.mode s.edges s.classes s.flags s.pattern positions
 
 -- there is a class and a flag for each edge
 pub record IsEven (s : Sought) : Type 0 where
@@ -94,7 +96,8 @@ pub record IsLeastFrom (s : Sought) (front walk : List ℕ) : Type 0 where
   pub rest : List ℕ
   pub begins : walk ≡ front ++ rest
   -- no other one is less
-  pub least : (others : List ℕ) → IsSought s (front ++ others) → IsTrue (is_le (slice_cmp nat_cmp walk (front ++ others)))
+  pub least : (others : List ℕ) → IsSought s (front ++ others)
+      → IsTrue (is_le (slice_cmp nat_cmp walk (front ++ others)))
 
 -- by what the next position is looked up
 abbrev pub keyed_after : List ℕ → Keyed
@@ -108,7 +111,8 @@ lock_after (e ∷ es) = Some (last_of e es).wanted
 
 -- the key of the next position
 abbrev pub key_after : Sought → List ℕ → Key
-key_after s front = (unwrap_or (slice_get s.pattern (length front)) 0, lock_after (picked s.edges front))
+key_after s front =
+    (unwrap_or (slice_get s.pattern (length front)) 0, lock_after (picked s.edges front))
 
 -- the key of a position that may come next
 abbrev pub key_behind : Sought → List ℕ → ℕ → Option Key
@@ -118,12 +122,15 @@ key_behind s front = key_at (keyed_after front) s.edges s.classes s.flags
 pub record HasPassed (s : Sought) (front : List ℕ) (next : Option ℕ) : Type 0 where
   pub within : unwrap_or next (length s.edges) ≤ length s.edges
   -- the next one has the key that is looked up
-  pub has : (i : ℕ) → next ≡ Some i → (i < length s.edges) × (key_behind s front i ≡ Some (key_after s front))
+  pub has : (i : ℕ) → next ≡ Some i → (i < length s.edges)
+      × (key_behind s front i ≡ Some (key_after s front))
   pub none : (i : ℕ) → i < unwrap_or next (length s.edges) → NoneFrom s (front ++ i ∷ [])
 
 -- the edges of the ground are in the chain by their keys
 abbrev pub IsChainOf : Keyed → Ground → Chain → Type 0
-IsChainOf keyed area chain = IsChain (key_at keyed (edges_of_table area.table.now) area.classes.now area.flags.now) (length (edges_of_table area.table.now)) 0 chain
+IsChainOf keyed area chain =
+    IsChain (key_at keyed (edges_of_table area.table.now) area.classes.now area.flags.now)
+    (length (edges_of_table area.table.now)) 0 chain
 
 -- the index leads through the flagged edges by their classes, and by the locks that they hold
 pub record IsIndexed (area : Ground) (by_class by_lock : Chain) : Type 0 where

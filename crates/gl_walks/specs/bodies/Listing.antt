@@ -8,7 +8,8 @@ use Rattle.gl_walks.specs.declared.keys.Keyed.{Keyed}
 use Rattle.gl_walks.specs.declared.keys.Keyed.TheVariants.{ByClass, ByLock}
 
 -- the answer is the first position from n on that has the key, of those below size
-pub record IsNext {K : Type 0} (key : ℕ → Option K) (size : ℕ) (k : K) (n : ℕ) (next : Option ℕ) : Type 0 where
+pub record IsNext {K : Type 0} (key : ℕ → Option K) (size : ℕ) (k : K) (n : ℕ)
+    (next : Option ℕ) : Type 0 where
   pub from : n ≤ unwrap_or next size
   pub within : unwrap_or next size ≤ size
   -- it has the key
@@ -17,10 +18,12 @@ pub record IsNext {K : Type 0} (key : ℕ → Option K) (size : ℕ) (k : K) (n 
   pub skipped : (i : ℕ) → n ≤ i → i < unwrap_or next size → key i ≢ Some k
 
 -- the positions from n on are listed by their keys: where each key stands first, and for each position that has a key where it stands next
-pub record AreListed {K : Type 0} (key : ℕ → Option K) (size n : ℕ) (first : K → Option ℕ) (next : List (Option ℕ)) : Type 0 where
+pub record AreListed {K : Type 0} (key : ℕ → Option K) (size n : ℕ) (first : K → Option ℕ)
+    (next : List (Option ℕ)) : Type 0 where
   pub long : length next ≡ size
   pub begins : (k : K) → IsNext key size k n (first k)
-  pub goes_on : (i : ℕ) (k : K) (after : Option ℕ) → n ≤ i → key i ≡ Some k → slice_get next i ≡ Some after → IsNext key size k (i + 1) after
+  pub goes_on : (i : ℕ) (k : K) (after : Option ℕ) → n ≤ i → key i ≡ Some k
+      → slice_get next i ≡ Some after → IsNext key size k (i + 1) after
 
 -- a class, and a lock where it matters
 abbrev pub Key : Type 0
@@ -50,4 +53,5 @@ key_of keyed _ _ _ = None
 
 -- the key of the edge at a position
 unfoldable pub key_at : Keyed → List Edge → List ℕ → List Bool → ℕ → Option Key
-key_at keyed edges classes flags i = key_of keyed (slice_get edges i) (slice_get classes i) (slice_get flags i)
+key_at keyed edges classes flags i =
+    key_of keyed (slice_get edges i) (slice_get classes i) (slice_get flags i)
