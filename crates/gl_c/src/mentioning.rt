@@ -1,9 +1,9 @@
 //! The report of a session whose locks and places are numbered by first mention.
-ghost use Rattle.std.specs.Prelude.{◌≡◌, ◌≤◌, ℕ, List, Some, length, map, slice_get, IfOk, IfErr};
+ghost use Rattle.std.specs.Prelude.{◌≡◌, Some, length};
 ghost use Rattle.gl_event.specs.Bounds.{greatest};
-ghost use Rattle.gl_event.specs.Lawful.{IsLawful};
+ghost use Rattle.gl_event.specs.Lawful.{AreLawful, lists_of};
 ghost use Rattle.gl_event.specs.declared.events.Event.{Event};
-ghost use Rattle.gl_renumbering.specs.Tales.{have_names, AreLawful};
+ghost use Rattle.gl_renumbering.specs.Tales.{have_names};
 ghost use Rattle.gl_c.specs.Mentioning.{IsMakingByMention, IsReportByMention, IsReportingByMention};
 ghost use Rattle.gl_c.specs.Reporting.{query_of, settled_lists};
 
@@ -27,10 +27,9 @@ fn make_by_mention(
     query: &Query,
     made: &mut Made,
 ) -> u32
-    requires few { length lists.now ≤ 1024 }
-    requires lawful { AreLawful greatest (map (λ list. list.items) lists.now) }
-    ensures { IsMakingByMention (have_names names.now (map (λ list. list.items) lists.now))
-        query.now names.now (map (λ list. list.items) lists.now)
+    requires { AreLawful greatest (lists_of lists.now) }
+    ensures { IsMakingByMention (have_names names.now (lists_of lists.now))
+        query.now names.now (lists_of lists.now)
         made.old.value result made.new.value }
 {
     match by_mention(alloc, names, lists) {

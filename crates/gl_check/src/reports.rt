@@ -1,9 +1,9 @@
 //! Checks of reports.
-ghost use Rattle.std.specs.Prelude.{◌≡◌, ◌≤◌, ◌⊎◌, ℕ, true, List, None, Some, is_some, length, slice_get, IfOk, IfErr, IsUtf8};
+ghost use Rattle.std.specs.Prelude.{◌≡◌, ◌≤◌, ◌⊎◌, ℕ, true, List, None, Some, is_some, length, IfOk, IfErr, IsUtf8};
 ghost use Rattle.serde_json.specs.Read.{read};
 ghost use Rattle.serde_json.specs.View.{view};
 ghost use Rattle.gl_event.specs.Bounds.{greatest};
-ghost use Rattle.gl_event.specs.Lawful.{IsLawful};
+ghost use Rattle.gl_event.specs.Lawful.{AreLawful};
 ghost use Rattle.gl_event.specs.declared.events.Event.{Event};
 ghost use Rattle.gl_segments.specs.Orders.{IsFaultOf};
 ghost use Rattle.gl_check.specs.Faults.{listing_word};
@@ -95,10 +95,7 @@ fn checked_of(
     value: &Value,
     query: Query,
 ) -> Result<Checked, CheckFault>
-    requires few { length trace.now.lists ≤ 1024 }
-    requires lawful { (thread : ℕ) (es : List Event)
-        → slice_get trace.now.lists thread ≡ Some es
-        → IsLawful greatest thread es }
+    requires lawful { AreLawful greatest trace.now.lists }
     requires shaped { is_report (view value.now) ≡ true }
     requires query { query ≡ asked_in (view value.now) }
     requires cycles { length (listings_in (format_in (view value.now)) (view value.now))
@@ -151,10 +148,7 @@ fn checked_of(
 /// once, and for each finding as many turns of its signature as its cycle has edges, each copied and
 /// compared. Format 1 takes a look at each edge of the trace for each listed one.
 pub fn check(alloc: Global, trace: &Trace, json: &[u8]) -> Result<Checked, CheckFault>
-    requires few { length trace.now.lists ≤ 1024 }
-    requires lawful { (thread : ℕ) (es : List Event)
-        → slice_get trace.now.lists thread ≡ Some es
-        → IsLawful greatest thread es }
+    requires lawful { AreLawful greatest trace.now.lists }
     ensures checked { IfOk result (IsChecked trace.now json.now) }
     ensures fault { IfErr result (IsCheckFault trace.now json.now) }
 {

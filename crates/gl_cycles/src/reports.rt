@@ -1,10 +1,10 @@
 //! Reports over edges.
-ghost use Rattle.std.specs.Prelude.{◌≡◌, ◌≤◌, ℕ, List, Some, None, length, slice_get, IfOk, IfErr};
+ghost use Rattle.std.specs.Prelude.{◌≡◌, List, Some, None, IfOk, IfErr};
 ghost use Rattle.gl_event.specs.Bounds.{greatest};
-ghost use Rattle.gl_event.specs.Lawful.{IsLawful};
+ghost use Rattle.gl_event.specs.Lawful.{AreLawful, lists_of};
 ghost use Rattle.gl_event.specs.declared.events.Event.{Event};
 ghost use Rattle.gl_segments.specs.Clocks.{is_before};
-ghost use Rattle.gl_segments.specs.Orders.{lists_of, IsFaultOf};
+ghost use Rattle.gl_segments.specs.Orders.{IsFaultOf};
 ghost use Rattle.gl_filters.specs.Picked.{edges_of_table};
 ghost use Rattle.gl_cycles.specs.Listed.{listed_cycles};
 ghost use Rattle.gl_cycles.specs.Reports.{IsGoodlockReport, IsReport, IsReportFault, report_by};
@@ -121,9 +121,7 @@ pub fn report_over(
     lists: &[Vec<Event>],
     query: &Query,
 ) -> Result<Report, ReportFault>
-    requires few { length lists.now ≤ 1024 }
-    requires lawful { (thread : ℕ) (es : List Event)
-        → slice_get (lists_of lists.now) thread ≡ Some es → IsLawful greatest thread es }
+    requires lawful { AreLawful greatest (lists_of lists.now) }
     ensures report { IfOk result (λ report. IsReport query.now edges (lists_of lists.now) report) }
     ensures fault { IfErr result (λ fault. IsReportFault (lists_of lists.now) fault) }
 {
@@ -145,9 +143,7 @@ pub fn report_over_parallel(
     lists: &[Vec<Event>],
     query: &Query,
 ) -> Result<Report, ReportFault>
-    requires few { length lists.now ≤ 1024 }
-    requires lawful { (thread : ℕ) (es : List Event)
-        → slice_get (lists_of lists.now) thread ≡ Some es → IsLawful greatest thread es }
+    requires lawful { AreLawful greatest (lists_of lists.now) }
     ensures report { IfOk result (λ report. IsReport query.now edges (lists_of lists.now) report) }
     ensures fault { IfErr result (λ fault. IsReportFault (lists_of lists.now) fault) }
 {
@@ -168,9 +164,7 @@ pub fn report_of_lists(
     lists: &[Vec<Event>],
     query: &Query,
 ) -> Result<Report, ReportFault>
-    requires few { length lists.now ≤ 1024 }
-    requires lawful { (thread : ℕ) (es : List Event)
-        → slice_get (lists_of lists.now) thread ≡ Some es → IsLawful greatest thread es }
+    requires lawful { AreLawful greatest (lists_of lists.now) }
     ensures report { IfOk result
         (λ report. IsGoodlockReport query.now (lists_of lists.now) report) }
     ensures fault { IfErr result (λ fault. IsReportFault (lists_of lists.now) fault) }

@@ -1,7 +1,7 @@
 //! What is known of a session once its receipts were settled.
-ghost use Rattle.std.specs.Prelude.{◌≡◌, ◌≤◌, ℕ, List, Some, length, map, slice_get, IfOk, IfErr};
+ghost use Rattle.std.specs.Prelude.{◌≡◌, List, map, IfOk, IfErr};
 ghost use Rattle.gl_event.specs.Bounds.{greatest};
-ghost use Rattle.gl_event.specs.Lawful.{IsLawful};
+ghost use Rattle.gl_event.specs.Lawful.{AreLawful, lists_of};
 ghost use Rattle.gl_event.specs.declared.events.Event.{Event};
 ghost use Rattle.gl_cycles.specs.Reports.{IsReport, IsGoodlockReport, IsReportFault};
 ghost use Rattle.gl_edges.specs.Edges.{edges, once};
@@ -49,11 +49,8 @@ impl Settled {
     /// The events of each thread, in the order of thread numbers. They are at most 1,024 lists, and each is
     /// lawful under the greatest limits.
     pub fn lists(&self) -> &[Vec<Event>]
-        ensures value { map (λ list. list.items) result.now ≡ self.now }
-        ensures few { length result.now ≤ 1024 }
-        ensures lawful { (thread : ℕ) (es : List Event)
-            → slice_get (map (λ list. list.items) result.now) thread ≡ Some es
-            → IsLawful greatest thread es }
+        ensures value { lists_of result.now ≡ self.now }
+        ensures lawful { AreLawful greatest (lists_of result.now) }
     {
         self.intake.logs()
     }

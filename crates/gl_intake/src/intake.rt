@@ -1,11 +1,11 @@
 //! The stream of accepted notes, with a log for each thread.
-ghost use Rattle.std.specs.Prelude.{◌≡◌, ◌≢◌, ◌↔◌, ℕ, ◌<◌, ◌≤◌, Some, None, Err, List, [], ◌∷◌, ◌++◌, length, map, slice_get, IsTrue, IsOk, IfOk, IfErr, IfSome, IfNone, OnOk, OnErr, ◌==◌, if◌then◌else◌};
+ghost use Rattle.std.specs.Prelude.{◌≡◌, ◌≢◌, ◌↔◌, ℕ, ◌<◌, ◌≤◌, Some, None, Err, List, [], ◌∷◌, ◌++◌, IsTrue, IsOk, IfOk, IfErr, IfSome, IfNone, OnOk, OnErr, ◌==◌, if◌then◌else◌};
 ghost use Rattle.gl_intake.specs.Keeping.{AreLogs, AreCursors};
 ghost use Rattle.gl_intake.specs.declared.notes.Refused.TheVariants.{WrongCount, Memory};
 ghost use Rattle.gl_event.specs.declared.notes.Body.TheVariants.{Happened, Ended};
 ghost use Rattle.gl_event.specs.Bounds.{Bounds, greatest};
 ghost use Rattle.gl_event.specs.declared.events.Event.{Event};
-ghost use Rattle.gl_event.specs.Lawful.{IsLawful};
+ghost use Rattle.gl_event.specs.Lawful.{AreLawful, IsLawful, lists_of};
 ghost use Rattle.gl_event.specs.States.{StandsAfter};
 ghost use Rattle.gl_recorder.specs.Taking.{Tracks};
 ghost use Rattle.gl_intake.specs.Stream.{events_of, has_ended, logs_of, AreInOrder, IsRefusal, IsRefusedFor, body_refusal, refusal_after, note_refusal, accepted_as, spare_of, HasOffered};
@@ -187,14 +187,11 @@ impl Intake {
     /// The events of each thread, in the order of thread numbers. They are at most 1,024 lists, and
     /// each is lawful under the intake's limits and under the greatest.
     pub fn logs(&self) -> &[Vec<Event>]
-        ensures value { map (λ log. log.items) result.now
+        ensures value { lists_of result.now
             ≡ logs_of self.now.limits.threads self.now.stream }
         ensures lawful { (thread : ℕ) → thread < self.now.limits.threads
             → IsLawful self.now.limits thread (events_of thread self.now.stream) }
-        ensures few { length result.now ≤ 1024 }
-        ensures lawful_lists { (thread : ℕ) (es : List Event)
-            → slice_get (map (λ log. log.items) result.now) thread ≡ Some es
-            → IsLawful greatest thread es }
+        ensures lawful_lists { AreLawful greatest (lists_of result.now) }
     {
         self.logs.as_slice()
     }

@@ -1,9 +1,8 @@
 //! Reports over edges, by the order of lists.
-ghost use Rattle.std.specs.Prelude.{◌≡◌, ◌≤◌, ℕ, List, Some, length, slice_get, IfOk, IfErr};
+ghost use Rattle.std.specs.Prelude.{IfOk, IfErr};
 ghost use Rattle.gl_event.specs.Bounds.{greatest};
-ghost use Rattle.gl_event.specs.Lawful.{IsLawful};
+ghost use Rattle.gl_event.specs.Lawful.{AreLawful, lists_of};
 ghost use Rattle.gl_event.specs.declared.events.Event.{Event};
-ghost use Rattle.gl_segments.specs.Orders.{lists_of};
 ghost use Rattle.gl_findings.specs.Reports.{IsReportWith};
 ghost use Rattle.gl_live.specs.Faults.{IsLiveFault};
 
@@ -30,9 +29,7 @@ pub fn report_with_contents(
     lists: &[Vec<Event>],
     query: &Query,
 ) -> Result<Report, LiveFault>
-    requires few { length lists.now ≤ 1024 }
-    requires lawful { (thread : ℕ) (es : List Event)
-        → slice_get (lists_of lists.now) thread ≡ Some es → IsLawful greatest thread es }
+    requires lawful { AreLawful greatest (lists_of lists.now) }
     ensures report { IfOk result
         (λ report. IsReportWith contents query.now edges (lists_of lists.now) report) }
     ensures fault { IfErr result (IsLiveFault (lists_of lists.now)) }

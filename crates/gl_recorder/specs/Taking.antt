@@ -1,5 +1,5 @@
 -- What a recorder of one thread knows of the events that it took, and what it answers the next.
-use Rattle.std.specs.Prelude.{◌≡◌, ◌≤◌, ◌==◌, ℕ, List, length, slice_get, Option, Some, None, Result, Ok, Err, nat_le, if◌then◌else◌}
+use Rattle.std.specs.Prelude.{◌≡◌, ◌==◌, ℕ, List, length, Option, Some, None, Result, Ok, Err, nat_le, if◌then◌else◌}
 use Rattle.std.specs.Option.{option_map_or}
 use Rattle.gl_event.specs.Bounds.{Bounds}
 use Rattle.gl_event.specs.Lawful.{refusal, IsLawful}
@@ -47,9 +47,3 @@ abbrev pub partner_refusal : Bounds → ℕ → ℕ → Option Refusal
 partner_refusal limits thread other =
     if nat_le limits.threads other then Some NoSuchThread
     else (if other == thread then Some OnItself else None)
-
--- there are no more lists than there may be threads, and each is lawful for the thread whose number is its position
-pub record AreLawful (limits : Bounds) (lists : List (List Event)) : Type 0 where
-  pub few : length lists ≤ limits.threads
-  pub each : (thread : ℕ) (es : List Event) → slice_get lists thread ≡ Some es
-      → IsLawful limits thread es

@@ -1,8 +1,7 @@
 //! Whether whole lists of events are lawful.
-ghost use Rattle.std.specs.Prelude.{◌≡◌, ◌↔◌, ◌<◌, ◌≤◌, ℕ, List, length, map, slice_get, Some, IsTrue};
-ghost use Rattle.gl_event.specs.Lawful.{IsLawful};
+ghost use Rattle.std.specs.Prelude.{◌↔◌, ◌<◌, IsTrue};
+ghost use Rattle.gl_event.specs.Lawful.{AreLawful, IsLawful, lists_of};
 ghost use Rattle.gl_event.specs.declared.events.Event.{Event};
-ghost use Rattle.gl_recorder.specs.Taking.{AreLawful};
 
 use crate::taker::Taker;
 use gl_event::{Event, Limits, ThreadId};
@@ -25,7 +24,7 @@ pub fn is_lawful(limits: &Limits, thread: ThreadId, list: &[Event]) -> bool
 /// Whether there are no more lists than there may be threads, and each is lawful for the thread
 /// whose number is its position. It takes a step for each event, and no memory.
 pub fn are_lawful(limits: &Limits, lists: &[Vec<Event>]) -> bool
-    ensures { IsTrue result ↔ AreLawful limits.now (map (λ v. v.items) lists.now) }
+    ensures { IsTrue result ↔ AreLawful limits.now (lists_of lists.now) }
 {
     if lists.len() > limits.threads() as usize {
         return false;

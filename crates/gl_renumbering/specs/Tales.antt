@@ -1,9 +1,9 @@
 -- What lists of events tell, whatever numbers their locks and locations have; and the lists that tell the same with locks and
 -- locations numbered by first mention: thread 0's list first, event by event, then thread 1's, and so on.
-use Rattle.std.specs.Prelude.{◌≡◌, ℕ, Bool, ◌&&◌, List, [], Option, Some, None, length, map, nat_lt, slice_get}
+use Rattle.std.specs.Prelude.{◌≡◌, ℕ, Bool, ◌&&◌, List, [], Option, Some, None, length, map, nat_lt}
 use Rattle.std.specs.List.{filter_map, flat_map, fold, list_all}
 use Rattle.gl_event.specs.Bounds.{Bounds}
-use Rattle.gl_event.specs.Lawful.{IsLawful}
+use Rattle.gl_event.specs.Lawful.{EachIsLawful}
 use Rattle.gl_event.specs.declared.events.Event.{Event}
 use Rattle.gl_event.specs.declared.events.Event.TheVariants.{Acquire, Release, TryAcquire, Fork, Join}
 use Rattle.gl_event.specs.declared.events.LockMode.{LockMode}
@@ -94,14 +94,9 @@ has_names names (Join thread loc) = is_named names.locs loc
 abbrev pub have_names : NameLists → List (List Event) → Bool
 have_names names lists = list_all (list_all (has_names names)) lists
 
--- each thread's list is lawful
-abbrev pub AreLawful : Bounds → List (List Event) → Type 0
-AreLawful limits lists =
-    (thread : ℕ) (es : List Event) → slice_get lists thread ≡ Some es → IsLawful limits thread es
-
 -- where the old lists are lawful, under whichever limits, so are the new ones
 abbrev pub StayLawful : List (List Event) → List (List Event) → Type 0
-StayLawful old new = (limits : Bounds) → AreLawful limits old → AreLawful limits new
+StayLawful old new = (limits : Bounds) → EachIsLawful limits old → EachIsLawful limits new
 
 -- two lots of lists tell the same, of the same threads
 abbrev pub TellTheSame : NameLists → List (List Event) → NameLists → List (List Event) → Type 0

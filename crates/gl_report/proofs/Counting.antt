@@ -6,7 +6,7 @@ use Rattle.std.proofs.lemmas.List.{map_more}
 use Rattle.std.proofs.lemmas.List.Sums.{sum_by_more, sum_by_push, sum_by-cons, count_by-le-length}
 use Rattle.gl_event.specs.Bounds.{greatest}
 use Rattle.gl_event.specs.Events.{closes, segment}
-use Rattle.gl_event.specs.Lawful.{IsLawful}
+use Rattle.gl_event.specs.Lawful.{AreLawful}
 use Rattle.gl_event.specs.declared.events.Event.{Event}
 use Rattle.gl_report.specs.Counts.{event_count, segment_count}
 use Rattle.gl_segments.proofs.Cutting.{lawful_length, segment_take}
@@ -88,13 +88,13 @@ small_sum f m (x ∷ xs) small =
     omega arith
 
 -- lawful lists have few events and few segments
-pub few_events : (lists : List (List Event)) → length lists ≤ 1024 → ((t : ℕ) (es : List Event) → slice_get lists t ≡ Some es → IsLawful greatest t es) → event_count lists < 18446744073709551616
-few_events lists few lawful =
-    let small = small_sum length 4000000000 lists (λ t es is. lawful_length t es (lawful t es is)) in
+pub few_events : (lists : List (List Event)) → AreLawful greatest lists → event_count lists < 18446744073709551616
+few_events lists lawful =
+    let small = small_sum length 4000000000 lists (λ t es is. lawful_length t es (lawful.each t es is)) in
     omega arith
 
-pub few_segments : (lists : List (List Event)) → length lists ≤ 1024 → ((t : ℕ) (es : List Event) → slice_get lists t ≡ Some es → IsLawful greatest t es) → segment_count lists < 18446744073709551616
+pub few_segments : (lists : List (List Event)) → AreLawful greatest lists → segment_count lists < 18446744073709551616
 unfolding segment
-few_segments lists few lawful =
-    let small = small_sum (λ es. segment es + 1) 4000000001 lists (λ t es is. let short = lawful_length t es (lawful t es is) in let closed = count_by-le-length closes es in omega arith) in
+few_segments lists lawful =
+    let small = small_sum (λ es. segment es + 1) 4000000001 lists (λ t es is. let short = lawful_length t es (lawful.each t es is) in let closed = count_by-le-length closes es in omega arith) in
     omega arith

@@ -1,8 +1,8 @@
 //! What is counted of a trace and of its report.
-ghost use Rattle.std.specs.Prelude.{◌≡◌, ◌+◌, ◌^◌, ◌<◌, ◌≤◌, ◌++◌, ℕ, List, Some, length, slice_get, IfOk, OnOk};
+ghost use Rattle.std.specs.Prelude.{◌≡◌, ◌+◌, ◌^◌, ◌<◌, ◌++◌, IfOk, OnOk};
 ghost use Rattle.gl_event.specs.Bounds.{greatest};
 ghost use Rattle.gl_event.specs.Events.{segment};
-ghost use Rattle.gl_event.specs.Lawful.{IsLawful};
+ghost use Rattle.gl_event.specs.Lawful.{AreLawful};
 ghost use Rattle.gl_event.specs.declared.events.Event.{Event};
 ghost use Rattle.gl_segments.specs.Orders.{lists_of};
 ghost use Rattle.gl_report.specs.Counts.{count_line, event_count, segment_count, stats_of, stats_text};
@@ -39,9 +39,7 @@ impl Stats {
     ///
     /// Takes no memory. Each event is looked at once.
     pub fn of(trace: &Trace, report: &Report) -> Stats
-        requires few { length trace.now.lists ≤ 1024 }
-        requires lawful { (thread : ℕ) (es : List Event)
-            → slice_get trace.now.lists thread ≡ Some es → IsLawful greatest thread es }
+        requires lawful { AreLawful greatest trace.now.lists }
         ensures { result ≡ stats_of trace.now report.now }
     {
         let lists = trace.lists.as_slice();

@@ -1,7 +1,7 @@
 //! Whether lists of events are lawful under the greatest limits, which their edges ask for.
-ghost use Rattle.std.specs.Prelude.{◌≡◌, ◌≤◌, ℕ, List, map, length, slice_get, Some, IsTrue};
+ghost use Rattle.std.specs.Prelude.{IsTrue};
 ghost use Rattle.gl_event.specs.Bounds.{greatest};
-ghost use Rattle.gl_event.specs.Lawful.{IsLawful};
+ghost use Rattle.gl_event.specs.Lawful.{AreLawful, IsLawful, lists_of};
 ghost use Rattle.gl_event.specs.declared.events.Event.{Event};
 
 use gl_event::{Event, Limits, MAX_THREADS, ThreadId};
@@ -19,10 +19,7 @@ pub fn is_lawful(thread: ThreadId, list: &[Event]) -> bool
 /// Whether the lists are lawful under the greatest limits, each for the thread whose number is its
 /// position. It takes a step for each event.
 pub fn are_lawful(lists: &[Vec<Event>]) -> bool
-    ensures few { IsTrue result → length lists.now ≤ 1024 }
-    ensures lawful { IsTrue result → (thread : ℕ) (es : List Event)
-        → slice_get (map (λ v. v.items) lists.now) thread ≡ Some es
-        → IsLawful greatest thread es }
+    ensures { IsTrue result → AreLawful greatest (lists_of lists.now) }
 {
     gl_recorder::are_lawful(&Limits::greatest(), lists)
 }

@@ -10,10 +10,10 @@ returns-clause-value c = rw (c.as_slice.ensures.value, ← c.self.view_is) (logs
 pub returns-clause-lawful : goal.returns-clause-lawful
 returns-clause-lawful c = rw (← c.self.view_is) (lawful_events _ _ _ c.self.invariant.cursors_are)
 
-pub returns-clause-few : goal.returns-clause-few
-returns-clause-few c = rw c.as_slice.ensures.value (omega (arith, c.self.invariant.logs_are.count, c.self.invariant.range.threads_fit))
-
 pub returns-clause-lawful_lists : goal.returns-clause-lawful_lists
 returns-clause-lawful_lists c =
     rw c.as_slice.ensures.value
-    (lists_lawful _ _ _ (logs_listed _ _ _ c.self.invariant.logs_are) c.self.invariant.range (lawful_events _ _ _ c.self.invariant.cursors_are))
+    record {
+      few = omega (arith, c.self.invariant.logs_are.count, c.self.invariant.range.threads_fit);
+      each = lists_lawful _ _ _ (logs_listed _ _ _ c.self.invariant.logs_are) c.self.invariant.range (lawful_events _ _ _ c.self.invariant.cursors_are);
+    }
