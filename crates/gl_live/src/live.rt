@@ -3,7 +3,7 @@ ghost use Rattle.std.specs.Prelude.{◌≡◌, ◌≤◌, ◌+◌, [], List, len
 ghost use Rattle.std.specs.List.{All};
 ghost use Rattle.std.specs.Vec.{vec_len, vec_capacity};
 ghost use Rattle.gl_event.specs.declared.events.Event.{Event};
-ghost use Rattle.gl_segments.specs.Orders.{lists_of};
+ghost use Rattle.gl_event.specs.Lawful.{lists_of};
 ghost use Rattle.gl_cycles.specs.Reports.{IsGoodlockReport};
 ghost use Rattle.gl_edges.specs.Edges.{edges, once};
 ghost use Rattle.gl_shards.specs.Feeds.{AllSent};

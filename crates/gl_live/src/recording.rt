@@ -2,7 +2,7 @@
 ghost use Rattle.std.specs.Prelude.{◌≡◌, ◌≤◌, ◌+◌, ◌++◌, true, Some, List, [], length, slice_get, IfSome, OnOk};
 ghost use Rattle.std.specs.List.{All};
 ghost use Rattle.std.specs.Vec.{vec_len, vec_capacity};
-ghost use Rattle.gl_segments.specs.Orders.{lists_of};
+ghost use Rattle.gl_event.specs.Lawful.{lists_of};
 ghost use Rattle.gl_event.specs.declared.events.Event.{Event};
 ghost use Rattle.gl_engine.specs.Collecting.{Collecting};
 ghost use Rattle.gl_engine.specs.Recording.{recorded, recorded_whole};

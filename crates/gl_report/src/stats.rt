@@ -4,7 +4,7 @@ ghost use Rattle.gl_event.specs.Bounds.{greatest};
 ghost use Rattle.gl_event.specs.Events.{segment};
 ghost use Rattle.gl_event.specs.Lawful.{AreLawful};
 ghost use Rattle.gl_event.specs.declared.events.Event.{Event};
-ghost use Rattle.gl_segments.specs.Orders.{lists_of};
+ghost use Rattle.gl_event.specs.Lawful.{lists_of};
 ghost use Rattle.gl_report.specs.Counts.{count_line, event_count, segment_count, stats_of, stats_text};
 
 use crate::number::put_number;

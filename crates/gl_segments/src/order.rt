@@ -33,7 +33,7 @@ impl Model for Order {
 
 impl Order {
     ghost use Rattle.gl_segments.specs.Clocks.{ahead, is_before, CountsBefore};
-    ghost use Rattle.gl_segments.specs.Orders.{lists_of};
+    ghost use Rattle.gl_event.specs.Lawful.{lists_of};
     ghost use Rattle.gl_event.specs.Bounds.{greatest};
     ghost use Rattle.gl_event.specs.Lawful.{IsLawful};
 

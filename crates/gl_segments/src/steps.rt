@@ -3,7 +3,7 @@ ghost use Rattle.std.specs.Prelude.{◌≡◌, ◌<◌, List, ◌∷◌, filter,
 ghost use Rattle.gl_event.specs.Events.{closes};
 ghost use Rattle.gl_segments.specs.bodies.Forked.{AreAllForks};
 ghost use Rattle.gl_segments.specs.bodies.Tables.{cuts_of, AreSmall, joined_last, AreStepsOfThread};
-ghost use Rattle.gl_segments.specs.Orders.{lists_of};
+ghost use Rattle.gl_event.specs.Lawful.{lists_of};
 
 use crate::forked::Forked;
 use crate::packed::Packed;

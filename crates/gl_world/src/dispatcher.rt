@@ -4,7 +4,7 @@ ghost use Rattle.gl_world.specs.Dispatch.{Shard, fresh_dispatch, fresh_shard, ta
 ghost use Rattle.gl_world.specs.Enabled.{grows};
 ghost use Rattle.gl_world.specs.Machine.{add_edges};
 
-use crate::feed::Feed;
+use crate::shard_part::ShardPart;
 use crate::steps::Did;
 use gl_edges::{Edge, Sample};
 use gl_event::{Limits, Memory};
@@ -12,7 +12,7 @@ use gl_shards::{MAX_SHARDS, Table, shard_of};
 use std::alloc::Global;
 use std::marker::Model;
 
-/// The edges made so far, how many of them were shipped, and a feed for each shard.
+/// The edges made so far, how many of them were shipped, and what is kept of each shard.
 ///
 /// Contracts see the dispatch.
 #[derive(Drop, Debug)]
@@ -20,7 +20,7 @@ pub struct Dispatcher {
     alloc: Global,
     made: Vec<(Edge, Sample)>,
     sent: usize,
-    feeds: Vec<Feed>,
+    parts: Vec<ShardPart>,
 }
 
 impl Model for Dispatcher {
@@ -29,43 +29,43 @@ impl Model for Dispatcher {
 
     ghost Value = { Dispatch };
 
-    ghost view = { λ d. record { made = d.made.items; sent = d.sent; shards = d.feeds.items } };
+    ghost view = { λ d. record { made = d.made.items; sent = d.sent; shards = d.parts.items } };
 
-    ghost invariant = { λ d. AreShards d.feeds.items };
+    ghost invariant = { λ d. AreShards d.parts.items };
 }
 
-// A feed for each shard.
-fn fresh_feeds(alloc: Global, shards: u32) -> Result<Vec<Feed>, Memory>
-    ensures { IfOk result (λ feeds. feeds.items ≡ replicate shards fresh_shard) }
+// The parts of this many shards, to which nothing was shipped.
+fn fresh_parts(alloc: Global, shards: u32) -> Result<Vec<ShardPart>, Memory>
+    ensures { IfOk result (λ parts. parts.items ≡ replicate shards fresh_shard) }
 {
-    let mut feeds = Vec::new(alloc);
+    let mut parts = Vec::new(alloc);
     for _shard in 0..shards {
-        feeds.push(Feed::new(alloc))?;
+        parts.push(ShardPart::new(alloc))?;
     }
-    Ok(feeds)
+    Ok(parts)
 }
 
-// Whether every edge that was shipped is worked, in all feeds.
-fn are_worked(feeds: &[Feed]) -> bool
+// Whether every edge that was shipped is worked, in all shards.
+fn are_worked(parts: &[ShardPart]) -> bool
     ensures { IsTrue result ↔
-        ((k : ℕ) (shard : Shard) → slice_get feeds.now k ≡ Some shard
+        ((k : ℕ) (shard : Shard) → slice_get parts.now k ≡ Some shard
         → shard.worked ≡ length shard.shipped) }
 {
-    for feed in feeds {
-        if !feed.is_worked() {
+    for part in parts {
+        if !part.is_worked() {
             return false;
         }
     }
     true
 }
 
-// Copies of the feeds' tables.
-fn copied_tables(alloc: Global, feeds: &[Feed]) -> Result<Vec<Table>, Memory>
-    ensures { IfOk result (λ tables. tables.items ≡ map table_of feeds.now) }
+// Copies of the shards' tables.
+fn copied_tables(alloc: Global, parts: &[ShardPart]) -> Result<Vec<Table>, Memory>
+    ensures { IfOk result (λ tables. tables.items ≡ map table_of parts.now) }
 {
     let mut tables = Vec::new(alloc);
-    for feed in feeds {
-        let table = feed.table().copy(alloc)?;
+    for part in parts {
+        let table = part.table().copy(alloc)?;
         tables.push(table)?;
     }
     Ok(tables)
@@ -78,12 +78,12 @@ impl Dispatcher {
         requires fit { shards ≤ MAX_SHARDS }
         ensures { IfOk result (λ d. d ≡ fresh_dispatch shards) }
     {
-        let feeds = fresh_feeds(alloc, shards)?;
+        let parts = fresh_parts(alloc, shards)?;
         Ok(Dispatcher {
             alloc,
             made: Vec::new(alloc),
             sent: 0,
-            feeds,
+            parts,
         })
     }
 
@@ -108,12 +108,12 @@ impl Dispatcher {
             return Ok(Did::Nothing);
         }
         let pair = &self.made[self.sent];
-        let shard = shard_of(&pair.0, self.feeds.len() as u32);
-        let feed = &mut self.feeds[shard as usize];
-        if !feed.has_place(limits) {
+        let shard = shard_of(&pair.0, self.parts.len() as u32);
+        let part = &mut self.parts[shard as usize];
+        if !part.has_place(limits) {
             return Ok(Did::Nothing);
         }
-        feed.ship(self.alloc, pair)?;
+        part.ship(self.alloc, pair)?;
         self.sent += 1;
         Ok(Did::Shipped(shard))
     }
@@ -126,10 +126,10 @@ impl Dispatcher {
         ensures unchanged { OnErr result (self.new ≡ self.old) }
     {
         let index = shard as usize;
-        if index >= self.feeds.len() {
+        if index >= self.parts.len() {
             return Ok(Did::Nothing);
         }
-        if self.feeds[index].work(self.alloc)? {
+        if self.parts[index].work(self.alloc)? {
             return Ok(Did::Worked);
         }
         Ok(Did::Nothing)
@@ -142,14 +142,14 @@ impl Dispatcher {
         if self.sent != self.made.len() {
             return false;
         }
-        are_worked(self.feeds.as_slice())
+        are_worked(self.parts.as_slice())
     }
 
     /// How many shards there are.
     pub fn shards(&self) -> usize
         ensures { result ≡ length self.now.shards }
     {
-        self.feeds.len()
+        self.parts.len()
     }
 
     /// The table of a shard.
@@ -158,13 +158,13 @@ impl Dispatcher {
         ensures { (s : Shard) → slice_get self.now.shards shard ≡ Some s
             → result.now ≡ table_of s }
     {
-        self.feeds[shard as usize].table()
+        self.parts[shard as usize].table()
     }
 
     /// Copies of all tables, in the order of shards.
     pub fn tables(&self) -> Result<Vec<Table>, Memory>
         ensures { IfOk result (λ tables. tables.items ≡ map table_of self.now.shards) }
     {
-        copied_tables(self.alloc, self.feeds.as_slice())
+        copied_tables(self.alloc, self.parts.as_slice())
     }
 }

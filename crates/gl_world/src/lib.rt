@@ -20,8 +20,8 @@
 //! }
 //! ```
 //!
-//! What gl_shards calls a feed is the queue of edges alone, with its two ends. The machine has the queue, the
-//! worker and the table of a shard in one, and calls that a `Feed`, after the edges shipped to it.
+//! What gl_shards calls a feed is the queue of edges alone, with its two ends. The machine keeps the queue, the
+//! worker and the table of a shard in one.
 //!
 //! The steps are defined in `specs/Machine.antt` and `specs/Dispatch.antt`, and what a drained
 //! machine reports in `specs/Headline.antt`. [`every_schedule_keeps_order`] and
@@ -33,8 +33,8 @@
 #![tactic(auto)]
 
 mod dispatcher;
-mod feed;
 mod laws;
+mod shard_part;
 mod steps;
 mod thread_part;
 mod world;

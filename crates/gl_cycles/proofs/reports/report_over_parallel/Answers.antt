@@ -1,4 +1,4 @@
-use Rattle.gl_segments.specs.Orders.{lists_of}
+use Rattle.gl_event.specs.Lawful.{lists_of}
 use Rattle.gl_cycles.proofs.reports.report_over_parallel.Goals as goal
 
 pub returns-in-Err-clause-fault : goal.returns-in-Err-clause-fault

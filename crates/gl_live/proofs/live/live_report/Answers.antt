@@ -3,7 +3,7 @@ use Rattle.gl_cycles.specs.Reports.{IsGoodlockReport}
 use Rattle.gl_edges.specs.Edges.{edges}
 use Rattle.gl_findings.specs.Reports.{IsReportWith}
 use Rattle.gl_findings.specs.declared.listing.Contents.TheVariants.{CyclesAndTrim}
-use Rattle.gl_segments.specs.Orders.{lists_of}
+use Rattle.gl_event.specs.Lawful.{lists_of}
 use Rattle.gl_live.proofs.live.live_report.Goals as goal
 
 pub returns-clause-report : goal.returns-clause-report

@@ -1,6 +1,6 @@
 use Rattle.std.proofs.Common.{sym, ◌∙◌}
 use Rattle.std.proofs.lemmas.List.{length-map}
-use Rattle.gl_segments.specs.Orders.{lists_of}
+use Rattle.gl_event.specs.Lawful.{lists_of}
 use Rattle.gl_live.specs.bodies.Rosters.{gathered_from, roster_of}
 use Rattle.gl_live.proofs.Leaving.{are_receipts}
 use Rattle.gl_live.proofs.Opened.{all_unused}

@@ -1,7 +1,7 @@
 use Rattle.std.proofs.Common.{sym, ap, ◌∙◌, subst}
 use Rattle.std.specs.Prelude.{IfOk}
 use Rattle.gl_edges.specs.Edges.{edges}
-use Rattle.gl_segments.specs.Orders.{lists_of}
+use Rattle.gl_event.specs.Lawful.{lists_of}
 use Rattle.gl_edges.proofs.Filling.{once_of_none}
 use Rattle.gl_findings.specs.Reports.{IsReportWith}
 use Rattle.gl_live.proofs.live.report_of_none.Goals as goal

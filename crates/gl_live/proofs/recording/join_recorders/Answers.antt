@@ -1,5 +1,5 @@
 use Rattle.std.proofs.Common.{◌≡◌}
-use Rattle.gl_segments.specs.Orders.{lists_of}
+use Rattle.gl_event.specs.Lawful.{lists_of}
 use Rattle.gl_live.proofs.Rostered.{first_all, rest_all, left_receipts}
 use Rattle.gl_live.proofs.recording.join_recorders.Goals as goal
 

@@ -2,7 +2,7 @@ use Rattle.std.proofs.Common.{◌≡◌, List}
 use Rattle.std.specs.List.{All}
 use Rattle.std.specs.Vec.Iter.{into_iter_items}
 use Rattle.gl_event.specs.declared.events.Event.{Event}
-use Rattle.gl_segments.specs.Orders.{lists_of}
+use Rattle.gl_event.specs.Lawful.{lists_of}
 use Rattle.gl_engine.specs.Collecting.{Collecting}
 use Rattle.gl_live.specs.bodies.Rosters.{roster_of, IsReceiptOf}
 use Rattle.gl_live.proofs.recording.join_recorders.Given as goal

@@ -1,5 +1,5 @@
 use Rattle.std.proofs.Common.{length, ap, arith}
-use Rattle.gl_segments.specs.Orders.{lists_of}
+use Rattle.gl_event.specs.Lawful.{lists_of}
 use Rattle.gl_live.specs.bodies.Rosters.{IsRecorderOf}
 use Rattle.gl_live.proofs.Rostered.{first_of_all, rest_of_all, receipts_more}
 use Rattle.gl_live.proofs.recording.record_all.Goals as goal

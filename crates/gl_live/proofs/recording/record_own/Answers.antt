@@ -1,4 +1,4 @@
-use Rattle.gl_segments.specs.Orders.{lists_of}
+use Rattle.gl_event.specs.Lawful.{lists_of}
 use Rattle.gl_live.proofs.Rostered.{receipt_whole}
 use Rattle.gl_live.proofs.recording.record_own.Goals as goal
 

@@ -1,6 +1,6 @@
 use Rattle.std.proofs.Common.{◌≡◌, length, ap, arith}
 use Rattle.std.proofs.lemmas.List.{length_push}
-use Rattle.gl_segments.specs.Orders.{lists_of}
+use Rattle.gl_event.specs.Lawful.{lists_of}
 use Rattle.gl_live.specs.bodies.Workloads.{IsWorkloadOf}
 use Rattle.gl_live.specs.bodies.Rosters.{roster_of}
 use Rattle.gl_live.proofs.Rostered.{rest_of_all, all_more}

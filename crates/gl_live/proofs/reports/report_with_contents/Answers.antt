@@ -1,5 +1,5 @@
 use Rattle.gl_segments.specs.Clocks.{is_before}
-use Rattle.gl_segments.specs.Orders.{lists_of}
+use Rattle.gl_event.specs.Lawful.{lists_of}
 use Rattle.gl_live.proofs.reports.report_with_contents.Goals as goal
 
 pub returns-clause-report : goal.returns-clause-report

@@ -1,5 +1,5 @@
 use Rattle.std.proofs.Common.{refl, sym, ap, ◌≤◌, length, subst, ◌∙◌, arith}
-use Rattle.gl_segments.specs.Orders.{lists_of}
+use Rattle.gl_event.specs.Lawful.{lists_of}
 use Rattle.gl_shards.specs.declared.shard.TheConstants.{MAX_SHARDS}
 use Rattle.gl_event.specs.Bounds.{Bounds}
 use Rattle.gl_live.proofs.Leaving.{unsent_at, as_long, roster_same}

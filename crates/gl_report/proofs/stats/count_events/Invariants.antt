@@ -1,5 +1,5 @@
 use Rattle.std.proofs.Common.{◌≡◌, take}
-use Rattle.gl_segments.specs.Orders.{lists_of}
+use Rattle.gl_event.specs.Lawful.{lists_of}
 use Rattle.gl_report.specs.Counts.{event_count}
 use Rattle.gl_report.proofs.stats.count_events.Given as goal
 

@@ -3,5 +3,5 @@ use Rattle.gl_world.specs.Dispatch.{table_of}
 use Rattle.gl_world.proofs.dispatcher.copied_tables.Given as goal
 
 -- the tables so far are copied
-abbrev pub invariant-loop-feed : goal.invariant-loop-feed
-invariant-loop-feed l = l.tables.items ≡ map table_of (take l.feed-index l.feeds)
+abbrev pub invariant-loop-part : goal.invariant-loop-part
+invariant-loop-part l = l.tables.items ≡ map table_of (take l.part-index l.parts)

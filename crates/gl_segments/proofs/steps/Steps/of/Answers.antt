@@ -6,7 +6,7 @@ use Rattle.std.proofs.lemmas.Option.{slice_get_within}
 use Rattle.gl_event.specs.Events.{closes}
 use Rattle.gl_event.specs.declared.events.Event.{Event}
 use Rattle.gl_event.specs.declared.events.Segment.{Segment}
-use Rattle.gl_segments.specs.Orders.{lists_of}
+use Rattle.gl_event.specs.Lawful.{lists_of}
 use Rattle.gl_segments.specs.bodies.Tables.{cuts_of, AreSmall, AreStepsOfThread, steps_of_thread}
 use Rattle.gl_segments.specs.bodies.Forked.{AreAllForks}
 use Rattle.gl_segments.proofs.Tabling.{threads_more}

@@ -20,7 +20,7 @@ pub returns-then-branch-clause-moved : goal.returns-then-branch-clause-moved
 returns-then-branch-clause-moved c =
     rw (← c.self.view_is)
     (ap (λ (h : Handled). h.dispatch)
-    (work_is (record { made = c.self.inside.made.items; sent = c.self.inside.sent; shards = c.self.inside.feeds.items }) c.args.shard c.index_mut.result.now (omega (arith, c.if-index-len.false, c.len.ensures))
+    (work_is (record { made = c.self.inside.made.items; sent = c.self.inside.sent; shards = c.self.inside.parts.items }) c.args.shard c.index_mut.result.now (omega (arith, c.if-index-len.false, c.len.ensures))
     c.index_mut.ensures.value c.in_ok-work.field-0 c.in_ok-work.ensures.had c.work.new.self c.in_ok-work.ensures.worked))
 
 pub returns-then-branch-clause-answer : goal.returns-then-branch-clause-answer
@@ -28,14 +28,14 @@ returns-then-branch-clause-answer c =
     rw (← c.self.view_is)
     (sym (ap (λ b. cond b Worked Nothing) c.if-branch.true)
     ∙ ap (λ (h : Handled). h.did)
-    (work_is (record { made = c.self.inside.made.items; sent = c.self.inside.sent; shards = c.self.inside.feeds.items }) c.args.shard c.index_mut.result.now (omega (arith, c.if-index-len.false, c.len.ensures))
+    (work_is (record { made = c.self.inside.made.items; sent = c.self.inside.sent; shards = c.self.inside.parts.items }) c.args.shard c.index_mut.result.now (omega (arith, c.if-index-len.false, c.len.ensures))
     c.index_mut.ensures.value c.in_ok-work.field-0 c.in_ok-work.ensures.had c.work.new.self c.in_ok-work.ensures.worked))
 
 pub returns-clause-moved : goal.returns-clause-moved
 returns-clause-moved c =
     rw (← c.self.view_is)
     (ap (λ (h : Handled). h.dispatch)
-    (work_is (record { made = c.self.inside.made.items; sent = c.self.inside.sent; shards = c.self.inside.feeds.items }) c.args.shard c.index_mut.result.now (omega (arith, c.if-index-len.false, c.len.ensures))
+    (work_is (record { made = c.self.inside.made.items; sent = c.self.inside.sent; shards = c.self.inside.parts.items }) c.args.shard c.index_mut.result.now (omega (arith, c.if-index-len.false, c.len.ensures))
     c.index_mut.ensures.value c.in_ok-work.field-0 c.in_ok-work.ensures.had c.work.new.self c.in_ok-work.ensures.worked))
 
 pub returns-clause-answer : goal.returns-clause-answer
@@ -43,7 +43,7 @@ returns-clause-answer c =
     rw (← c.self.view_is)
     (sym (ap (λ b. cond b Worked Nothing) c.if-branch.false)
     ∙ ap (λ (h : Handled). h.did)
-    (work_is (record { made = c.self.inside.made.items; sent = c.self.inside.sent; shards = c.self.inside.feeds.items }) c.args.shard c.index_mut.result.now (omega (arith, c.if-index-len.false, c.len.ensures))
+    (work_is (record { made = c.self.inside.made.items; sent = c.self.inside.sent; shards = c.self.inside.parts.items }) c.args.shard c.index_mut.result.now (omega (arith, c.if-index-len.false, c.len.ensures))
     c.index_mut.ensures.value c.in_ok-work.field-0 c.in_ok-work.ensures.had c.work.new.self c.in_ok-work.ensures.worked))
 
 pub returns-in_err-work-clause-memory : goal.returns-in_err-work-clause-memory
@@ -53,5 +53,5 @@ returns-in_err-work-clause-memory c =
     (rw (← c.self.view_is)
     (ap (λ (h : Handled). grows h.did)
     (sym
-    (work_is (record { made = c.self.inside.made.items; sent = c.self.inside.sent; shards = c.self.inside.feeds.items }) c.args.shard shard (omega (arith, c.if-index-len.false, c.len.ensures)) c.index_mut.ensures.value
+    (work_is (record { made = c.self.inside.made.items; sent = c.self.inside.sent; shards = c.self.inside.parts.items }) c.args.shard shard (omega (arith, c.if-index-len.false, c.len.ensures)) c.index_mut.ensures.value
     true (sym c.in_err-work.ensures.memory) (work_edge shard) (sym (ap (λ b. cond b (work_edge shard) shard) c.in_err-work.ensures.memory))))))

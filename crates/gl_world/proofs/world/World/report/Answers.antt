@@ -1,6 +1,6 @@
 use Rattle.std.proofs.Common.{◌≡◌, ap, ◌∙◌, subst}
 use Rattle.gl_event.specs.Bounds.{Bounds}
-use Rattle.gl_segments.specs.Orders.{lists_of}
+use Rattle.gl_event.specs.Lawful.{lists_of}
 use Rattle.gl_shards.specs.Tables.{union}
 use Rattle.gl_intake.specs.Stream.{logs_of}
 use Rattle.gl_world.specs.Dispatch.{worked_edges}

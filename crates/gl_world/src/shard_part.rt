@@ -13,13 +13,13 @@ use std::marker::Model;
 ///
 /// Contracts see the shard.
 #[derive(Drop, Debug)]
-pub struct Feed {
+pub struct ShardPart {
     shipped: Vec<(Edge, Sample)>,
     worked: usize,
     table: Table,
 }
 
-impl Model for Feed {
+impl Model for ShardPart {
     ghost use Rattle.gl_world.specs.Dispatch.{Shard};
     ghost use Rattle.gl_world.specs.Keeping.{IsTabled};
 
@@ -30,12 +30,12 @@ impl Model for Feed {
     ghost invariant = { λ f. IsTabled f.shipped.items f.worked f.table };
 }
 
-impl Feed {
+impl ShardPart {
     /// A shard to which nothing was shipped.
-    pub fn new(alloc: Global) -> Feed
+    pub fn new(alloc: Global) -> ShardPart
         ensures { result ≡ fresh_shard }
     {
-        Feed {
+        ShardPart {
             shipped: Vec::new(alloc),
             worked: 0,
             table: Table::new(alloc),
@@ -49,7 +49,7 @@ impl Feed {
         &self.table
     }
 
-    /// Whether the feed has a place for one edge more.
+    /// Whether the shard's feed has a place for one edge more.
     pub fn has_place(&self, limits: &Limits) -> bool
         ensures { result ≡ has_place limits.now self.now }
     {

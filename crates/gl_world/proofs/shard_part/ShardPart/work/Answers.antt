@@ -1,7 +1,7 @@
 use Rattle.std.proofs.Common.{◌++◌, ◌∷◌, [], ap, ◌∙◌, arith}
 use Rattle.gl_edges.specs.Edges.{once}
 use Rattle.gl_world.proofs.Dispatching.{tabled_more}
-use Rattle.gl_world.proofs.feed.Feed.work.Goals as goal
+use Rattle.gl_world.proofs.shard_part.ShardPart.work.Goals as goal
 
 pub invariant_of-self-2 : goal.invariant_of-self-2
 invariant_of-self-2 c =
