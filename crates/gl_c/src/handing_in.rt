@@ -1,6 +1,5 @@
 //! Handing in lanes that were closed.
 ghost use Rattle.std.specs.Prelude.{◌≡◌, Some, Ok, None, IfErr, OnOk, OnErr};
-ghost use Rattle.gl_engine.specs.Receipts as wanted;
 ghost use Rattle.gl_c.specs.Calls.{IsAnswer, IsCall};
 ghost use Rattle.gl_c.specs.HandingIn.{is_wanted, runs, state_refusal, HasReceipts, IsHandIn, IsTaken};
 ghost use Rattle.gl_c.specs.declared.codes.TheConstants.{OK, MISUSE};
@@ -11,8 +10,7 @@ use crate::lane::Lane;
 use crate::lane_state::LaneState;
 use crate::session::Session;
 use crate::session_state::{SessionState, Stage};
-use gl_engine::Receipt;
-use gl_event::ThreadId;
+use gl_engine::{Receipt, has_receipt};
 use std::alloc::Global;
 
 // Whether the session runs.
@@ -23,18 +21,6 @@ fn runs(stage: &Stage) -> bool
         Stage::Running(_) => true,
         Stage::Settled(_) | Stage::Gone => false,
     }
-}
-
-// Whether one of the receipts is of this thread.
-fn has_receipt(receipts: &[Receipt], thread: ThreadId) -> bool
-    ensures { result ≡ wanted.has_receipt receipts.now thread }
-{
-    for receipt in receipts {
-        if receipt.thread().number() == thread.number() {
-            return true;
-        }
-    }
-    false
 }
 
 // Whether the receipt is of the session, and the first of its thread.

@@ -8,9 +8,10 @@ use Rattle.std.proofs.lemmas.Slice.Eq.{bytes_eq-Decides}
 use Rattle.serde_json.specs.Data.{unsigned, negative, float, Data, null, boolean, number, string, array, object, Items, no_items, item, Members, no_members, member}
 use Rattle.serde_json.specs.Find.{as_array, as_bool, as_str, get}
 use Rattle.serde_json.specs.View.{items_of}
+use Rattle.gl_filters.specs.Asked.{mode_name, mode_named}
 use Rattle.gl_filters.specs.declared.query.Mode.TheVariants.{Basic, Guarded, Full}
-use Rattle.gl_report.specs.Tree.{mode_word, positions_tree, trim_tree}
-use Rattle.gl_check.specs.Shape.{has_fields, have_fields, is_below, is_of, items_in, items_under, listed, mode_said, mode_under, number_of, number_under, order_of, report_fields, trim_in}
+use Rattle.gl_report.specs.Tree.{positions_tree, trim_tree}
+use Rattle.gl_check.specs.Shape.{has_fields, have_fields, is_below, is_of, items_in, items_under, listed, mode_under, number_of, number_under, order_of, report_fields, trim_in}
 use Rattle.gl_check.specs.declared.fields.Format.TheVariants.{One, Two, Three}
 use Rattle.gl_check.specs.declared.fields.Kind.{Kind}
 use Rattle.gl_check.specs.declared.fields.Kind.TheVariants.{Number, Exactly, Word, Flag, Array, Trim}
@@ -52,18 +53,18 @@ exactly_is n (string s) is = absurd (false≢true is)
 exactly_is n (array ds) is = absurd (false≢true is)
 exactly_is n (object ms) is = absurd (false≢true is)
 
-word_of : (s : List ℕ) → is_some (mode_said s) ≡ true → s ≡ mode_word (unwrap_or (mode_said s) Basic)
+word_of : (s : List ℕ) → is_some (mode_named s) ≡ true → s ≡ mode_name (unwrap_or (mode_named s) Basic)
 word_of s is = by (bytes_eq s (codes "basic")) (bytes_eq s (codes "guarded")) (bytes_eq s (codes "full")) refl refl refl is
   where
     by : (a b c : Bool) → bytes_eq s (codes "basic") ≡ a → bytes_eq s (codes "guarded") ≡ b → bytes_eq s (codes "full") ≡ c
         → is_some (cond a (Some Basic) (cond b (Some Guarded) (cond c (Some Full) None))) ≡ true
-        → s ≡ mode_word (unwrap_or (cond a (Some Basic) (cond b (Some Guarded) (cond c (Some Full) None))) Basic)
+        → s ≡ mode_name (unwrap_or (cond a (Some Basic) (cond b (Some Guarded) (cond c (Some Full) None))) Basic)
     by true b c one two three is = (bytes_eq-Decides s (codes "basic")).0 one
     by false true c one two three is = (bytes_eq-Decides s (codes "guarded")).0 two
     by false false true one two three is = (bytes_eq-Decides s (codes "full")).0 three
     by false false false one two three is = absurd (false≢true is)
 
-word_is : (d : Data) → is_of Word d ≡ true → d ≡ string (mode_word (unwrap_or (option_and_then mode_said (as_str d)) Basic))
+word_is : (d : Data) → is_of Word d ≡ true → d ≡ string (mode_name (unwrap_or (option_and_then mode_named (as_str d)) Basic))
 word_is null is = absurd (false≢true is)
 word_is (boolean b) is = absurd (false≢true is)
 word_is (number n) is = absurd (false≢true is)
@@ -107,7 +108,7 @@ six a b c d e f =
 
 -- an object with the keys of a report of format 1, by what stands under them
 abbrev Rebuilt : Data → Type 0
-Rebuilt d = d ≡ six (array (items_of (items_under (codes "cycles") d))) (number (unsigned 1)) (number (unsigned (number_under (codes "len") d))) (number (unsigned (number_under (codes "max") d))) (string (mode_word (mode_under d))) (boolean (more_under d))
+Rebuilt d = d ≡ six (array (items_of (items_under (codes "cycles") d))) (number (unsigned 1)) (number (unsigned (number_under (codes "len") d))) (number (unsigned (number_under (codes "max") d))) (string (mode_name (mode_under d))) (boolean (more_under d))
 
 rebuilt_six : (a b c d e f : Data) → is_of Array a ≡ true → is_of (Exactly 1) b ≡ true → is_of Number c ≡ true → is_of Number d ≡ true → is_of Word e ≡ true → is_of Flag f ≡ true → Rebuilt (six a b c d e f)
 rebuilt_six a b c d e f one two three four five more =
@@ -166,7 +167,7 @@ eight a b c d e f g h =
 abbrev RebuiltTwo : Data → Type 0
 RebuiltTwo d =
     d ≡ eight (array (items_of (items_under (codes "cycles") d))) (array (items_of (items_under (codes "edges") d))) (number (unsigned 2)) (number (unsigned (number_under (codes "len") d)))
-    (number (unsigned (number_under (codes "max") d))) (string (mode_word (mode_under d))) (boolean (more_under d)) (trim_tree (trim_in d))
+    (number (unsigned (number_under (codes "max") d))) (string (mode_name (mode_under d))) (boolean (more_under d)) (trim_tree (trim_in d))
 
 rebuilt_eight : (a b c d e f g h : Data) → is_of Array a ≡ true → is_of Array b ≡ true → is_of (Exactly 2) c ≡ true → is_of Number d ≡ true → is_of Number e ≡ true → is_of Word f ≡ true → is_of Flag g ≡ true
     → is_of Trim h ≡ true → RebuiltTwo (eight a b c d e f g h)
@@ -207,7 +208,7 @@ seven a b c d e f g =
 abbrev RebuiltThree : Data → Type 0
 RebuiltThree d =
     d ≡ seven (array (items_of (items_under (codes "edges") d))) (array (items_of (items_under (codes "findings") d))) (number (unsigned 3)) (number (unsigned (number_under (codes "len") d)))
-    (number (unsigned (number_under (codes "max") d))) (string (mode_word (mode_under d))) (boolean (more_under d))
+    (number (unsigned (number_under (codes "max") d))) (string (mode_name (mode_under d))) (boolean (more_under d))
 
 rebuilt_seven : (a b c d e f g : Data) → is_of Array a ≡ true → is_of Array b ≡ true → is_of (Exactly 3) c ≡ true → is_of Number d ≡ true → is_of Number e ≡ true → is_of Word f ≡ true → is_of Flag g ≡ true
     → RebuiltThree (seven a b c d e f g)

@@ -15,13 +15,13 @@ use Rattle.gl_edges.specs.Edges.{edges}
 use Rattle.gl_edges.specs.declared.edge.Edge.{Edge}
 use Rattle.gl_edges.specs.declared.edge.Sample.{Sample}
 use Rattle.gl_filters.proofs.Valid.{cycle_if_valid}
-use Rattle.gl_filters.specs.Asked.{Asked, first_out_of_range}
+use Rattle.gl_filters.specs.Asked.{Asked, first_out_of_range, mode_name}
 use Rattle.gl_filters.specs.Picked.{edges_of_table, picked}
 use Rattle.gl_cycles.proofs.TrimsSpareCycles.{none_if_all_go}
 use Rattle.gl_cycles.specs.Laws.{IsCycleAt}
 use Rattle.gl_trims.specs.Trims.{IsWholeRemoval}
 use Rattle.gl_cycles.specs.declared.found.Report.{Report}
-use Rattle.gl_report.specs.Tree.{edge_tree, mode_word, positions_tree, report_tree, trim_tree}
+use Rattle.gl_report.specs.Tree.{edge_tree, positions_tree, report_tree, trim_tree}
 use Rattle.gl_report.specs.Exclusive.{is_exclusive}
 use Rattle.gl_report.specs.Findings.{findings_tree}
 use Rattle.gl_report.specs.TreeV1.{cycle_tree_v1, edge_tree_v1, report_tree_v1}
@@ -179,7 +179,7 @@ module _ (trace : Trace) (before : Segment → Segment → Bool) (d : Data) (fou
   printed_as One fields listings has are =
       let cycles = cycles_v1 trace.names (edges trace.lists) before (asked_in d) (length (items_under (codes "edges") d)) (items_under (codes "cycles") d) found listings are.each in (
         rebuilt_v1 d fields
-            ∙ ap (λ cs. six (array (items_of cs)) (number (unsigned 1)) (number (unsigned (asked_in d).len)) (number (unsigned (asked_in d).max)) (string (mode_word (asked_in d).mode)) (boolean (more_under d))) cycles,
+            ∙ ap (λ cs. six (array (items_of cs)) (number (unsigned 1)) (number (unsigned (asked_in d).len)) (number (unsigned (asked_in d).max)) (string (mode_name (asked_in d).mode)) (boolean (more_under d))) cycles,
         (
           each_right trace.names (edges trace.lists) before (asked_in d) One (λ cycle. All (λ edge. is_exclusive edge ≡ true) (picked (edges_of_table (edges trace.lists)) cycle))
               (λ ds ps is. exclusive trace.names (edges trace.lists) ds ps is.edges) (map items_in (listings_in One d)) found are.each,
@@ -189,13 +189,13 @@ module _ (trace : Trace) (before : Segment → Segment → Bool) (d : Data) (fou
   printed_as Two fields listings has are =
       let cycles = cycles_told trace.names (edges trace.lists) before (asked_in d) Two two≢one (length (items_under (codes "edges") d)) (items_under (codes "cycles") d) found listings are.each in (
         rebuilt_two d fields
-            ∙ (λ i. eight (array (items_of (cycles i))) (array (items_of (has i))) (number (unsigned 2)) (number (unsigned (asked_in d).len)) (number (unsigned (asked_in d).max)) (string (mode_word (asked_in d).mode)) (boolean (more_under d)) (trim_tree (trim_in d))),
+            ∙ (λ i. eight (array (items_of (cycles i))) (array (items_of (has i))) (number (unsigned 2)) (number (unsigned (asked_in d).len)) (number (unsigned (asked_in d).max)) (string (mode_name (asked_in d).mode)) (boolean (more_under d)) (trim_tree (trim_in d))),
         tt,
       )
   printed_as Three fields listings has are =
       let shown = cycles_told trace.names (edges trace.lists) before (asked_in d) Three three≢one (length (items_under (codes "edges") d)) (items_under (codes "findings") d) found listings are.each in (
         rebuilt_three d fields
-            ∙ (λ i. seven (array (items_of (has i))) (array (items_of (shown i))) (number (unsigned 3)) (number (unsigned (asked_in d).len)) (number (unsigned (asked_in d).max)) (string (mode_word (asked_in d).mode)) (boolean (more_under d))),
+            ∙ (λ i. seven (array (items_of (has i))) (array (items_of (shown i))) (number (unsigned 3)) (number (unsigned (asked_in d).len)) (number (unsigned (asked_in d).max)) (string (mode_name (asked_in d).mode)) (boolean (more_under d))),
         ap trim_in (rebuilt_three d fields),
       )
 

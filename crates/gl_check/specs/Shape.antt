@@ -1,5 +1,5 @@
 -- The shape of a report's JSON, and what stands under its keys.
-use Rattle.std.specs.Prelude.{ℕ, ◌^◌, ◌==◌, ◌&&◌, ◌||◌, Bool, true, false, List, [], ◌∷◌, length, map, Option, Some, None, option_map, option_and_then, unwrap_or, is_some, is_none, nat_lt, nat_le, if◌then◌else◌, codes}
+use Rattle.std.specs.Prelude.{ℕ, ◌^◌, ◌==◌, ◌&&◌, ◌||◌, Bool, true, false, List, [], ◌∷◌, length, map, Option, option_map, option_and_then, unwrap_or, is_some, is_none, nat_lt, nat_le, if◌then◌else◌, codes}
 use Rattle.std.specs.List.{list_all}
 use Rattle.std.specs.Str.{bytes_eq}
 use Rattle.serde_json.specs.Data.{Data, null, boolean, number, string, array, object, Items, no_items, item, Members, no_members, member}
@@ -8,9 +8,9 @@ use Rattle.gl_check.specs.declared.fields.Format.{Format}
 use Rattle.gl_check.specs.declared.fields.Format.TheVariants.{One, Two, Three}
 use Rattle.gl_check.specs.declared.fields.Kind.{Kind}
 use Rattle.gl_check.specs.declared.fields.Kind.TheVariants.{Number, Exactly, Name, Names, Letter, Letters, Word, Flag, Array, Trim}
-use Rattle.gl_filters.specs.Asked.{Asked, first_out_of_range}
+use Rattle.gl_filters.specs.Asked.{Asked, first_out_of_range, mode_named}
 use Rattle.gl_filters.specs.declared.query.Mode.{Mode}
-use Rattle.gl_filters.specs.declared.query.Mode.TheVariants.{Basic, Guarded, Full}
+use Rattle.gl_filters.specs.declared.query.Mode.TheVariants.{Basic}
 use Rattle.gl_findings.specs.declared.listing.Listing.{Listing}
 use Rattle.gl_findings.specs.declared.listing.Listing.TheVariants.{Cycles, Findings}
 
@@ -41,14 +41,6 @@ is_letter d =
     unwrap_or (option_map (λ word. bytes_eq word (codes "x") || bytes_eq word (codes "s"))
     (as_str d)) false
 
--- the mode that a word stands for
-abbrev pub mode_said : List ℕ → Option Mode
-mode_said word =
-    if bytes_eq word (codes "basic") then Some Basic
-    else (if bytes_eq word (codes "guarded") then Some Guarded
-    else (if bytes_eq word (codes "full") then Some Full
-    else None))
-
 -- null
 abbrev pub is_null : Data → Bool
 is_null null = true
@@ -67,7 +59,7 @@ is_of Name d = is_some (as_str d)
 is_of Names d = is_some (as_array d) && list_all (λ name. is_some (as_str name)) (items_in d)
 is_of Letter d = is_letter d
 is_of Letters d = is_some (as_array d) && list_all is_letter (items_in d)
-is_of Word d = is_some (option_and_then mode_said (as_str d))
+is_of Word d = is_some (option_and_then mode_named (as_str d))
 is_of Flag d = is_some (as_bool d)
 is_of Array d = is_some (as_array d)
 is_of Trim d = is_null d || (is_some (as_array d) && list_all (is_below (2 ^ 32)) (items_in d))
@@ -120,7 +112,7 @@ number_under key d = unwrap_or (option_and_then whole (get key d)) 0
 -- the mode whose word stands under `mode`
 abbrev pub mode_under : Data → Mode
 mode_under d =
-    unwrap_or (option_and_then mode_said (option_and_then as_str (get (codes "mode") d))) Basic
+    unwrap_or (option_and_then mode_named (option_and_then as_str (get (codes "mode") d))) Basic
 
 -- what was asked
 abbrev pub asked_in : Data → Asked

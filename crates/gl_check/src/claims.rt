@@ -5,8 +5,8 @@ ghost use Rattle.gl_filters.specs.Asked.{first_out_of_range};
 ghost use Rattle.gl_check.specs.Shape.{asked_in, format_in, is_report, listings_in, mode_under, number_of, order_of, trim_in};
 
 use crate::fields::{
-    Format, are_edges, are_listings, has_report_fields, items_under, listings_in, mode_said,
-    number_of, number_under,
+    Format, are_edges, are_listings, has_report_fields, items_under, listings_in, number_of,
+    number_under,
 };
 use gl_event::Memory;
 use gl_filters::{Mode, Query};
@@ -34,7 +34,7 @@ fn mode_under(value: &Value) -> Mode
     value
         .get("mode")
         .and_then(Value::as_str)
-        .and_then(mode_said)
+        .and_then(Mode::named)
         .unwrap_or(Mode::Basic)
 }
 

@@ -4,7 +4,7 @@ ghost use Rattle.std.specs.List.{list_all};
 ghost use Rattle.serde_json.specs.Find.{as_str};
 ghost use Rattle.serde_json.specs.View.{view, members_view};
 ghost use Rattle.gl_check.specs.declared.fields.Kind.{Kind};
-ghost use Rattle.gl_check.specs.Shape.{edge_fields, edge_fields_v1, has_fields, have_fields, is_below, is_edge, is_letter, is_listing, is_member, is_of, items_in, items_under, listing_of, listings_in, mode_said, number_of, number_under, report_fields};
+ghost use Rattle.gl_check.specs.Shape.{edge_fields, edge_fields_v1, has_fields, have_fields, is_below, is_edge, is_letter, is_listing, is_member, is_of, items_in, items_under, listing_of, listings_in, number_of, number_under, report_fields};
 
 use gl_filters::Mode;
 use gl_findings::Listing;
@@ -117,22 +117,6 @@ fn is_letter(value: &Value) -> bool
         .is_some_and(|word| word == "x" || word == "s")
 }
 
-/// The mode that a word stands for.
-pub(crate) fn mode_said(word: &str) -> Option<Mode>
-    ensures { result ≡ mode_said word.now }
-{
-    if word == "basic" {
-        return Some(Mode::Basic);
-    }
-    if word == "guarded" {
-        return Some(Mode::Guarded);
-    }
-    if word == "full" {
-        return Some(Mode::Full);
-    }
-    None
-}
-
 // Whether these are texts.
 fn are_names(values: &[Value]) -> bool
     ensures { result ≡ list_all (λ name. is_some (as_str name)) (map view values.now) }
@@ -180,7 +164,7 @@ fn is_of(kind: Kind, value: &Value) -> bool
         Kind::Names => value.is_array() && are_names(items_in(value)),
         Kind::Letter => is_letter(value),
         Kind::Letters => value.is_array() && are_letters(items_in(value)),
-        Kind::Word => value.as_str().and_then(mode_said).is_some(),
+        Kind::Word => value.as_str().and_then(Mode::named).is_some(),
         Kind::Flag => value.is_boolean(),
         Kind::Array => value.is_array(),
         Kind::Trim => value.is_null() || (value.is_array() && are_numbers(items_in(value))),

@@ -63,6 +63,7 @@ pub use gathered::{Gathered, RunFault};
 pub use laws::{running_calls_are_steps, unpulled_is_unchanged};
 pub use pulled::{PullFault, Pulled};
 pub use receipt::Receipt;
+pub use receipts::has_receipt;
 pub use recorder::{CloseFault, RecordFault, Recorder};
 pub use session::open;
 pub use settled::Settled;

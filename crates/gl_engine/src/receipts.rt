@@ -13,8 +13,8 @@ use crate::lane_input::LaneInput;
 use crate::receipt::Receipt;
 use gl_event::ThreadId;
 
-// Whether one of the receipts is of the thread.
-fn has_receipt(receipts: &[Receipt], thread: ThreadId) -> bool
+/// Whether one of the receipts is of the thread. It looks at each of them.
+pub fn has_receipt(receipts: &[Receipt], thread: ThreadId) -> bool
     ensures { result ≡ wanted.has_receipt receipts.now thread }
 {
     for receipt in receipts {

@@ -1,14 +1,11 @@
 -- The command line: its commands and options, and what words ask for.
-use Rattle.std.specs.Prelude.{◌≡◌, ◌≢◌, ◌≤◌, ◌⊎◌, ⊤, ℕ, Bool, true, false, List, [], ◌∷◌, Option, Some, None, codes, pos, if◌then◌else◌, option_and_then, string_bytes}
-use Rattle.std.specs.Str.{bytes_eq}
+use Rattle.std.specs.Prelude.{◌≡◌, ◌≢◌, ◌≤◌, ◌⊎◌, ⊤, ℕ, Bool, true, false, List, [], ◌∷◌, Option, Some, codes, pos, option_and_then, string_bytes}
 use Rattle.std.specs.Str.Parse.{IsNumeral, digits_value, without_leading_plus}
 use Rattle.clap.specs.Words.{App, IsAmong, Row, Rule, Text, fault_of, first_of, new_app, new_rule, one_of, subcommand_of, with_rule, with_subcommand}
 use Rattle.clap.specs.declared.builder.value_parser.ValueParser.TheVariants as takes
 use Rattle.clap.specs.declared.error.kind.ErrorKind.{ErrorKind}
 use Rattle.clap.specs.declared.error.kind.ErrorKind.TheVariants as kind
-use Rattle.gl_filters.specs.Asked.{Asked, IsInRange}
-use Rattle.gl_filters.specs.declared.query.Mode.{Mode}
-use Rattle.gl_filters.specs.declared.query.Mode.TheVariants.{Basic, Guarded, Full}
+use Rattle.gl_filters.specs.Asked.{Asked, IsInRange, mode_named}
 use Rattle.clap.specs.declared.builder.action.ArgAction.TheVariants.{SetTrue}
 use Rattle.gl_options.specs.declared.form.Form.{Form}
 use Rattle.gl_options.specs.declared.form.Form.TheVariants.{Text as Plain, Json}
@@ -138,13 +135,6 @@ goodlock =
     replay.top) check.top
 
 -- ---- what words ask for
-
--- the mode of this name
-abbrev pub mode_named : Text → Option Mode
-mode_named name =
-    if bytes_eq name (codes "basic") then Some Basic
-    else (if bytes_eq name (codes "guarded") then Some Guarded
-    else (if bytes_eq name (codes "full") then Some Full else None))
 
 -- the option's value is this number, in decimal digits
 abbrev pub IsNumberAt : List Row → Text → ℕ → Type 0

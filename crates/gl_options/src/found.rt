@@ -1,28 +1,13 @@
 //! What was read for the options of a command.
 ghost use Rattle.std.specs.Prelude.{◌≡◌, ◌<◌, ◌^◌, ℕ, None, codes, option_and_then, IfSome};
 ghost use Rattle.clap.specs.Words.{first_of, found_of, rows_of};
-ghost use Rattle.gl_options.specs.Options.{AsksIn, IsFlagIn, IsFormIn, IsNumberAt, IsNumberIn, mode_named};
+ghost use Rattle.gl_filters.specs.Asked.{mode_named};
+ghost use Rattle.gl_options.specs.Options.{AsksIn, IsFlagIn, IsFormIn, IsNumberAt, IsNumberIn};
 ghost use Rattle.gl_options.specs.bodies.Searches.{Finds};
 
 use crate::form::Form;
 use clap::ArgMatches;
 use gl_filters::{Mode, Query};
-
-// The mode of this name.
-fn mode_named(name: &str) -> Option<Mode>
-    ensures { result ≡ mode_named name.now }
-{
-    if name == "basic" {
-        return Some(Mode::Basic);
-    }
-    if name == "guarded" {
-        return Some(Mode::Guarded);
-    }
-    if name == "full" {
-        return Some(Mode::Full);
-    }
-    None
-}
 
 /// The number that was read for an option.
 pub(crate) fn number_at(matches: &ArgMatches<'_>, id: &str) -> Option<u32>
@@ -55,7 +40,7 @@ fn mode_in(matches: &ArgMatches<'_>) -> Option<Mode>
         (first_of (codes "mode") (rows_of (found_of matches.now))) }
 {
     match matches.get_str("mode") {
-        Some(name) => mode_named(name),
+        Some(name) => Mode::named(name),
         None => None,
     }
 }

@@ -5,9 +5,9 @@ use Rattle.serde_json.specs.View.{items_of}
 use Rattle.gl_std.specs.Names.{NameLists}
 use Rattle.gl_edges.specs.declared.edge.Edge.{Edge}
 use Rattle.gl_edges.specs.declared.edge.Sample.{Sample}
-use Rattle.gl_filters.specs.Asked.{Asked}
+use Rattle.gl_filters.specs.Asked.{Asked, mode_name}
 use Rattle.gl_cycles.specs.declared.found.Found.{Found}
-use Rattle.gl_report.specs.Tree.{edge_tree, positions_tree, mode_word}
+use Rattle.gl_report.specs.Tree.{edge_tree, positions_tree}
 
 -- each edge once, and for each finding the positions of the edges of the cycle that shows it
 unfoldable pub findings_tree : NameLists → Asked → List (Edge × Sample) → Found → Data
@@ -17,5 +17,5 @@ findings_tree names asked table found =
     (member (codes "format") (number (unsigned 3))
     (member (codes "len") (number (unsigned asked.len))
     (member (codes "max") (number (unsigned asked.max))
-    (member (codes "mode") (string (mode_word asked.mode))
+    (member (codes "mode") (string (mode_name asked.mode))
     (member (codes "more") (boolean found.more) no_members)))))))

@@ -4,12 +4,11 @@ use Rattle.serde_json.specs.Data.{Data, null, unsigned, boolean, number, string,
 use Rattle.serde_json.specs.View.{items_of}
 use Rattle.gl_event.specs.declared.events.LockMode.{LockMode}
 use Rattle.gl_event.specs.declared.events.LockMode.TheVariants.{Exclusive, Shared}
+use Rattle.gl_filters.specs.Asked.{mode_name}
 use Rattle.gl_std.specs.Names.{NameLists}
 use Rattle.gl_edges.specs.declared.edge.Edge.{Edge}
 use Rattle.gl_edges.specs.declared.edge.Sample.{Sample}
 use Rattle.gl_edges.specs.declared.guards.Guard.{Guard}
-use Rattle.gl_filters.specs.declared.query.Mode.{Mode}
-use Rattle.gl_filters.specs.declared.query.Mode.TheVariants.{Basic, Guarded, Full}
 use Rattle.gl_cycles.specs.declared.found.Report.{Report}
 use Rattle.gl_report.specs.Escapes.{escaped}
 use Rattle.gl_report.specs.Text.{name_of}
@@ -60,12 +59,6 @@ abbrev pub trim_tree : Option (List ℕ) → Data
 trim_tree None = null
 trim_tree (Some removed) = positions_tree removed
 
--- the word for a mode
-abbrev pub mode_word : Mode → List ℕ
-mode_word Basic = codes "basic"
-mode_word Guarded = codes "guarded"
-mode_word Full = codes "full"
-
 -- the whole report: each edge once, and cycles as the positions of their edges
 unfoldable pub report_tree : NameLists → Report → Data
 report_tree names report =
@@ -74,6 +67,6 @@ report_tree names report =
     (member (codes "format") (number (unsigned 2))
     (member (codes "len") (number (unsigned report.query.len))
     (member (codes "max") (number (unsigned report.query.max))
-    (member (codes "mode") (string (mode_word report.query.mode))
+    (member (codes "mode") (string (mode_name report.query.mode))
     (member (codes "more") (boolean report.found.more)
     (member (codes "trim") (trim_tree report.trim) no_members))))))))

@@ -3,11 +3,12 @@ use Rattle.std.specs.Prelude.{ℕ, List, map, slice_get, codes}
 use Rattle.std.specs.List.{filter_map}
 use Rattle.serde_json.specs.Data.{Data, unsigned, boolean, number, string, array, object, member, no_members}
 use Rattle.serde_json.specs.View.{items_of}
+use Rattle.gl_filters.specs.Asked.{mode_name}
 use Rattle.gl_std.specs.Names.{NameLists}
 use Rattle.gl_edges.specs.declared.edge.Edge.{Edge}
 use Rattle.gl_edges.specs.declared.edge.Sample.{Sample}
 use Rattle.gl_cycles.specs.declared.found.Report.{Report}
-use Rattle.gl_report.specs.Tree.{name_tree, guards_tree, mode_word}
+use Rattle.gl_report.specs.Tree.{name_tree, guards_tree}
 
 -- an edge, with where it was seen
 unfoldable pub edge_tree_v1 : NameLists → Edge × Sample → Data
@@ -35,5 +36,5 @@ report_tree_v1 names report =
     (member (codes "format") (number (unsigned 1))
     (member (codes "len") (number (unsigned report.query.len))
     (member (codes "max") (number (unsigned report.query.max))
-    (member (codes "mode") (string (mode_word report.query.mode))
+    (member (codes "mode") (string (mode_name report.query.mode))
     (member (codes "more") (boolean report.found.more) no_members))))))

@@ -2,7 +2,8 @@
 ghost use Rattle.std.specs.Prelude.{◌≡◌, [], ◌∷◌, ◌++◌, map, IfOk, OnOk};
 ghost use Rattle.serde_json.specs.Data.{number, string, unsigned};
 ghost use Rattle.serde_json.specs.View.{view};
-ghost use Rattle.gl_report.specs.Tree.{guard_modes_tree, guards_tree, lock_mode_letter, lock_mode_tree, mode_word, name_tree, positions_tree};
+ghost use Rattle.gl_filters.specs.Asked.{mode_name};
+ghost use Rattle.gl_report.specs.Tree.{guard_modes_tree, guards_tree, lock_mode_letter, lock_mode_tree, name_tree, positions_tree};
 
 use crate::escapes::escaped_name;
 use crate::printing::{loc_name, lock_name, thread_name};
@@ -155,19 +156,8 @@ pub(crate) fn positions_value(alloc: Global, positions: &[usize]) -> Result<Valu
 
 /// The mode of a query.
 pub(crate) fn mode_value(alloc: Global, mode: Mode) -> Result<Value, Memory>
-    ensures { IfOk result (λ v. view v ≡ string (mode_word mode)) }
+    ensures { IfOk result (λ v. view v ≡ string (mode_name mode)) }
 {
-    let word = String::from_str(alloc, mode_name(mode))?;
+    let word = String::from_str(alloc, mode.name())?;
     Ok(Value::from(word))
-}
-
-// The word for a mode.
-fn mode_name(mode: Mode) -> &'static str
-    ensures { result.now ≡ mode_word mode }
-{
-    match mode {
-        Mode::Basic => "basic",
-        Mode::Guarded => "guarded",
-        Mode::Full => "full",
-    }
 }

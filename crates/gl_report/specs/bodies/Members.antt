@@ -5,8 +5,8 @@ use Rattle.serde_json.specs.View.{items_of}
 use Rattle.gl_std.specs.Names.{NameLists}
 use Rattle.gl_edges.specs.declared.edge.Edge.{Edge}
 use Rattle.gl_edges.specs.declared.edge.Sample.{Sample}
-use Rattle.gl_filters.specs.Asked.{Asked}
-use Rattle.gl_report.specs.Tree.{guard_modes_tree, guards_tree, lock_mode_tree, mode_word, name_tree, positions_tree}
+use Rattle.gl_filters.specs.Asked.{Asked, mode_name}
+use Rattle.gl_report.specs.Tree.{guard_modes_tree, guards_tree, lock_mode_tree, name_tree, positions_tree}
 
 -- with the names of its thread and of its locks
 abbrev pub with_names : NameLists → Edge → Members → Members
@@ -39,7 +39,7 @@ with_modes edge members =
 -- with the number of the format, and what was asked
 abbrev pub with_question : ℕ → Asked → Members → Members
 with_question format asked members =
-    put (codes "mode") (string (mode_word asked.mode))
+    put (codes "mode") (string (mode_name asked.mode))
     (put (codes "max") (number (unsigned asked.max))
     (put (codes "len") (number (unsigned asked.len))
     (put (codes "format") (number (unsigned format)) members)))
