@@ -165,11 +165,7 @@ fn run_with_handles<'s, E, R: Threads + Wait + Sync, G: Gate + Sync>(
         call_off(rt, start, outlets);
         return Err(LiveFault::Unconfirmed);
     }
-    let started = ThreadCounts {
-        workers: workers.len(),
-        recorders: recorders.len(),
-    };
-    start.begin(started, wanted);
+    start.begin(workers.as_slice(), recorders.as_slice(), wanted);
     let gathered = collector.run(rt, outlets);
     join_threads(rt, gathered, workers, recorders, receipts, served)
 }

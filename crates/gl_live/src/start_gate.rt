@@ -1,5 +1,5 @@
 //! The gate at which recorder threads wait until all threads of a run are started.
-ghost use Rattle.std.specs.Prelude.{◌≡◌};
+ghost use Rattle.std.specs.Prelude.{◌≡◌, length};
 
 use std::sync::Wait;
 use std::sync::atomic::{AtomicU64, Ordering};
@@ -11,8 +11,8 @@ const STARTED: u64 = 1;
 
 const CALLED_OFF: u64 = 2;
 
-/// How many threads of each kind a run wants, or has started.
-#[derive(Clone, Copy, Debug, PartialEq, Eq)]
+/// How many threads of each kind a run wants.
+#[derive(Clone, Copy, Debug)]
 pub struct ThreadCounts {
     pub workers: usize,
     pub recorders: usize,
@@ -32,9 +32,10 @@ impl StartGate {
         }
     }
 
-    /// The run begins: as many threads were started as it wants.
-    pub fn begin(&self, started: ThreadCounts, wanted: ThreadCounts)
-        requires all { started ≡ wanted }
+    /// The run begins: of these handles of the threads that were started there are as many as it wants.
+    pub fn begin<W, R>(&self, workers: &[W], recorders: &[R], wanted: ThreadCounts)
+        requires workers { length workers.now ≡ wanted.workers }
+        requires recorders { length recorders.now ≡ wanted.recorders }
     {
         self.state.store(STARTED, Ordering::SeqCst);
     }
