@@ -39,7 +39,7 @@ IfRefused (Refused line) P = P line.items
 IfRefused Memory P = Unit {0}
 IfRefused other P = ⊥
 
--- or because the session isn't confirmed
+-- it ended with a line, of which this holds, for want of memory, or because the session isn't confirmed
 abbrev pub IfStopped : Ended → (List ℕ → Type 0) → Type 0
 IfStopped Unconfirmed P = Unit {0}
 IfStopped other P = IfRefused other P
@@ -57,7 +57,7 @@ pub record IsLoopOf (trace : Trace) (line : List ℕ) : Type 0 where
   pub least : IsLeastBeforeItself trace.lists at
   pub said : line ≡ inconsistent_line trace.names at
 
--- the line says either
+-- the line says the fault that was read in a trace's place, or which segment of the trace is before itself
 abbrev pub SaysWhyNoReport : Result Trace ReadFault → List ℕ → Type 0
 SaysWhyNoReport read line =
     IsFaultIn read line ⊎ ((trace : Trace) × (read ≡ Ok trace) × IsLoopOf trace line)
@@ -86,7 +86,7 @@ IsAnsweredBy IsAnswered read (Ok p) =
 IsAnsweredBy IsAnswered read (Err ended) =
     IfRefused ended (λ line. IsAnswerToEach IsAnswered read (Refusal line))
 
--- or the session isn't confirmed
+-- what is printed is answered to each, or the line that refuses them; or memory was refused, or the session isn't confirmed
 abbrev pub IsAnsweredInSession : (List ℕ → Answer → Type 0)
     → Result Trace ReadFault → Result Printed Ended → Type 0
 IsAnsweredInSession IsAnswered read (Ok p) =
