@@ -1,5 +1,6 @@
 //! Lists of events for worked examples, as constants tell them, [`ops`], and notes, [`notes`]; whether lists are
-//! lawful, [`lawful`]; what is known of them, [`known`]; and a gate at which two workers meet, [`meeting`].
+//! lawful, [`lawful`]; what is known of them, [`known`]; rings of segments, [`rings`]; and a gate at which two
+//! workers meet, [`meeting`].
 //!
 //! Tests stand in crates of their own, since a crate is proved once more with its tests. What several of
 //! these share is here. Little is told of it, so that a test's calls stand among few facts, and the prover
@@ -11,3 +12,4 @@ pub mod lawful;
 pub mod meeting;
 pub mod notes;
 pub mod ops;
+pub mod rings;

@@ -1,11 +1,11 @@
 //! The order of the segments of lists of events.
-use super::wanted::Wanted;
-use super::{are_wanted, expect};
-use gl_event::{Event, Segment, ThreadId};
+use super::expect;
+use gl_event::{Event, ThreadId};
 use gl_segments::{Order, OrderFault};
 use gl_worked::known::order_of;
 use gl_worked::ops::Op::{self, Acq, Fork, Join, Rel};
 use gl_worked::ops::{event_of, events_of, lists_of};
+use gl_worked::rings::{is_ring, segment};
 use std::alloc::Global;
 
 // A segment, as constants tell it: its thread and its index.
@@ -192,27 +192,6 @@ fn ordered(alloc: Global, lists: Lists) -> Option<Result<Order, OrderFault>> {
     order_of(alloc, &lists)
 }
 
-fn segment(at: At) -> Segment {
-    Segment {
-        thread: ThreadId::new(at.0),
-        index: at.1,
-    }
-}
-
-impl Wanted<Segment> for At {
-    fn is(&self, found: &Segment) -> bool {
-        *found == segment(*self)
-    }
-}
-
-// Whether there is a first one of the wanted segments, it was found, and the ring is these.
-fn is_ring(at: Segment, ring: &[Segment], wanted: &[At]) -> bool {
-    match wanted.first() {
-        Some(first) => first.is(&at) && are_wanted(ring, wanted),
-        None => false,
-    }
-}
-
 // Whether one of the threads from 1 to the last one is before this one.
 fn is_after_another(order: &Order, thread: u32, last: u32) -> bool {
     for other in 1..=last {
@@ -244,7 +223,7 @@ fn answers(order: &Result<Order, OrderFault>, ask: &Ask) -> bool {
         }
         (Ok(order), Ahead(at, thread, wanted)) => ahead(order, at, thread) == wanted,
         (Ok(order), Forked(last)) => are_forked(order, last),
-        (Err(OrderFault::Inconsistent { at, ring }), Loop(wanted)) => is_ring(*at, ring, wanted),
+        (Err(OrderFault::Inconsistent { at, ring }), Loop(wanted)) => is_ring(at, ring, wanted),
         _ => false,
     }
 }

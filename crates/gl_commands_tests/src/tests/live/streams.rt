@@ -10,7 +10,7 @@ use super::lists::reported;
 use super::wanted::{Listed, TWO_EDGES, Wanted, is_wanted, query_for};
 use crate::unread::unread_items;
 use gl_cycles::Report;
-use gl_event::{MAX_RING, MAX_THREADS, Segment, ThreadId};
+use gl_event::{MAX_RING, MAX_THREADS};
 use gl_filters::Query;
 use gl_findings::Contents;
 use gl_io::FromStd;
@@ -20,6 +20,7 @@ use gl_std::{Failed, Items, LinesFault, Source, StdKind};
 use gl_worked::meeting::Meeting;
 use gl_worked::ops::Op::{self, Acq, Rel};
 use gl_worked::ops::lists_of;
+use gl_worked::rings::is_ring;
 use std::process::Abort;
 use std::sync::Wait;
 use std::thread::Threads;
@@ -257,26 +258,6 @@ fn ended<R: AllocGlobal + Threads + Wait + Sync>(
         Some(contents) => streamed_with(rt, case.text, contents),
         None => of_text(rt, case.text, case.threads),
     }
-}
-
-fn segment(at: (u32, u32)) -> Segment {
-    Segment {
-        thread: ThreadId::new(at.0),
-        index: at.1,
-    }
-}
-
-// Whether the first of these segments was found, and all of them are the ring.
-fn is_ring(at: &Segment, ring: &[Segment], wanted: &[(u32, u32)]) -> bool {
-    if wanted.is_empty() || ring.len() != wanted.len() || *at != segment(wanted[0]) {
-        return false;
-    }
-    for (found, want) in ring.iter().zip(wanted) {
-        if *found != segment(*want) {
-            return false;
-        }
-    }
-    true
 }
 
 // Whether it is as it is wanted.

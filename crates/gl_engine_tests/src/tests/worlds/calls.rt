@@ -2,10 +2,11 @@
 use crate::watched::Watched;
 use gl_cycles::{Report, ReportFault};
 use gl_edges::{Edge, Sample};
-use gl_event::{Event, Segment, ThreadId};
+use gl_event::{Event, ThreadId};
 use gl_filters::{Mode, Query};
 use gl_worked::notes::{Told, are_notes};
 use gl_worked::ops::{Op, are_events};
+use gl_worked::rings::is_ring;
 use gl_world::{Did, Step};
 use std::alloc::Global;
 
@@ -190,25 +191,4 @@ fn is_sample(sample: &Sample, wanted: [u32; 3]) -> bool {
         sample.wanted_loc.number(),
     ];
     found == wanted
-}
-
-// Whether the first of these segments was found, and all of them are the ring.
-fn is_ring(at: &Segment, ring: &[Segment], wanted: &[(u32, u32)]) -> bool {
-    if wanted.is_empty() || ring.len() != wanted.len() || *at != segment(wanted[0]) {
-        return false;
-    }
-    for (found, want) in ring.iter().zip(wanted) {
-        if *found != segment(*want) {
-            return false;
-        }
-    }
-    true
-}
-
-// The segment of a thread and an index.
-fn segment(at: (u32, u32)) -> Segment {
-    Segment {
-        thread: ThreadId::new(at.0),
-        index: at.1,
-    }
 }
