@@ -36,7 +36,6 @@ pub struct Trimmed {
 //
 // A hint is looked for only when its edge is looked at, and a leader only where there is a follower: an edge
 // without one goes. By then the edges before it may be gone, with which it needn't be compared.
-#[derive(Drop)]
 pub(crate) struct Hints {
     // which threads use a lock
     pub(crate) users: Users,
@@ -46,6 +45,18 @@ pub(crate) struct Hints {
     pub(crate) found: Vec<Option<usize>>,
     // for each position that is left those of which it is the hint
     pub(crate) watchers: Watchers,
+}
+
+// Written out, so that it is proved once: a derived drop is proved again wherever one is let go.
+impl Drop for Hints {
+    fn drop(self) {
+        let Hints {
+            users,
+            chain,
+            found,
+            watchers,
+        } = self;
+    }
 }
 
 impl Hints {
@@ -68,10 +79,16 @@ impl Hints {
 }
 
 // The hints on both sides.
-#[derive(Drop)]
 pub(crate) struct Sides {
     pub(crate) followers: Hints,
     pub(crate) leaders: Hints,
+}
+
+// Written out, so that it is proved once: a derived drop is proved again wherever one is let go.
+impl Drop for Sides {
+    fn drop(self) {
+        let Sides { followers, leaders } = self;
+    }
 }
 
 // Whether the edge at a position has a hint, and the edge there is left.
