@@ -9,7 +9,7 @@ use Rattle.gl_event.specs.Events.{closes}
 use Rattle.gl_event.specs.declared.events.Event.{Event}
 use Rattle.gl_event.specs.declared.events.Event.TheVariants.{Acquire, Release, TryAcquire, Fork, Join}
 use Rattle.gl_event.specs.declared.events.Segment.{Segment}
-use Rattle.gl_segments.specs.Orders.{lists_of}
+use Rattle.gl_event.specs.Lawful.{lists_of}
 use Rattle.gl_segments.specs.bodies.Tables.{steps_of_thread, Forks, cut_at, joined_last, AreStepsOfThread}
 
 -- a place below i + 1 is below i, or is i

@@ -1,7 +1,7 @@
 //! The forks, by the thread that they start.
 ghost use Rattle.std.specs.Prelude.{◌≡◌, ◌↔◌, ◌<◌, ◌≤◌, ◌^◌, length, map, nat_le, nat_lt, Contains, IfOk, OnOk};
 ghost use Rattle.std.specs.List.Sorted.{IsNonDecreasingBy, IsPartitionPoint};
-ghost use Rattle.gl_segments.specs.Orders.{lists_of};
+ghost use Rattle.gl_event.specs.Lawful.{lists_of};
 ghost use Rattle.gl_segments.specs.bodies.Packing.{between};
 ghost use Rattle.gl_segments.specs.bodies.Tables.{AreSmall};
 ghost use Rattle.gl_segments.specs.bodies.Forked.{AddsForks, AreAllForks};

@@ -1,6 +1,6 @@
 use Rattle.std.proofs.Common.{arith}
 use Rattle.std.proofs.lemmas.List.{length-map}
-use Rattle.gl_segments.specs.Orders.{lists_of}
+use Rattle.gl_event.specs.Lawful.{lists_of}
 use Rattle.gl_segments.specs.bodies.Forked.{AddsForks}
 use Rattle.gl_segments.proofs.Tabling.{items_at}
 use Rattle.gl_segments.proofs.Forking.{forks_more, forks_all, forks_none}

@@ -1,4 +1,4 @@
-use Rattle.gl_segments.specs.Orders.{lists_of}
+use Rattle.gl_event.specs.Lawful.{lists_of}
 use Rattle.gl_segments.proofs.Forking.{ForksBelow}
 use Rattle.gl_segments.proofs.forked.all_forks.Given as goal
 

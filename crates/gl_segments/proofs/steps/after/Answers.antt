@@ -1,5 +1,5 @@
 use Rattle.std.proofs.Common.{◌≡◌, [], ◌∷◌, ◌++◌, length, ap, ◌∙◌, arith, rules}
-use Rattle.gl_segments.specs.Orders.{lists_of}
+use Rattle.gl_event.specs.Lawful.{lists_of}
 use Rattle.gl_segments.specs.bodies.Tables.{joined_last}
 use Rattle.gl_segments.proofs.Tabling.{items_at, joined_here, joined_none, joined_other}
 use Rattle.gl_segments.proofs.steps.after.Goals as goal

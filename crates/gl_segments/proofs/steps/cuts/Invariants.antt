@@ -1,6 +1,6 @@
 use Rattle.std.proofs.Common.{◌≡◌, map, take, filter}
 use Rattle.gl_event.specs.Events.{closes}
-use Rattle.gl_segments.specs.Orders.{lists_of}
+use Rattle.gl_event.specs.Lawful.{lists_of}
 use Rattle.gl_segments.proofs.steps.cuts.Given as goal
 
 -- those of the lists so far

@@ -1,7 +1,7 @@
 use Rattle.std.proofs.Common.{◌≡◌, length, refl, sym, ap, subst, ◌∙◌, arith}
 use Rattle.std.specs.Prelude.{slice_get}
 use Rattle.std.proofs.lemmas.Option.{slice_get_read, same_Some}
-use Rattle.gl_segments.specs.Orders.{lists_of}
+use Rattle.gl_event.specs.Lawful.{lists_of}
 use Rattle.gl_segments.specs.bodies.Tables.{AreStepsOfThread}
 use Rattle.gl_segments.proofs.Tabling.{items_at, steps_begin, steps_more, steps_all}
 use Rattle.gl_segments.proofs.steps.steps_of_thread.Goals as goal

@@ -1,4 +1,4 @@
-use Rattle.gl_segments.specs.Orders.{lists_of}
+use Rattle.gl_event.specs.Lawful.{lists_of}
 use Rattle.gl_segments.proofs.Tabling.{AreStepsBelow}
 use Rattle.gl_segments.proofs.steps.steps_of_thread.Given as goal
 

@@ -1,7 +1,7 @@
 use Rattle.std.proofs.Common.{◌≡◌, ℕ, ◌<◌, List, length, Some}
 use Rattle.std.specs.Prelude.{slice_get}
 use Rattle.gl_event.specs.declared.events.Event.{Event}
-use Rattle.gl_segments.specs.Orders.{lists_of}
+use Rattle.gl_event.specs.Lawful.{lists_of}
 use Rattle.gl_segments.specs.bodies.Tables.{AreStepsOfThread, steps_of_thread}
 use Rattle.gl_segments.proofs.steps.Steps.of.Given as goal
 
