@@ -2,7 +2,7 @@
 ghost use Rattle.std.specs.Prelude.{◌≡◌, ◌≤◌, ◌+◌, ℕ, List, [], ◌∷◌, ◌++◌, map, length, slice_get, Some, OnOk, IfOk};
 ghost use Rattle.gl_event.specs.Bounds.{greatest};
 ghost use Rattle.gl_event.specs.Events.{depth};
-ghost use Rattle.gl_event.specs.Lawful.{IsLawful};
+ghost use Rattle.gl_event.specs.Lawful.{AreLawful, IsLawful, lists_of};
 ghost use Rattle.gl_event.specs.declared.events.Event.{Event};
 ghost use Rattle.gl_edges.specs.Edges.{edges_wanting, edges_after, edges_of_list, edges_made_from, once, edges};
 ghost use Rattle.gl_edges.specs.bodies.Gatherers.{Gathers, pair_for};
@@ -148,10 +148,9 @@ pub(crate) fn edges_from(
 ) -> Result<EdgeList, Memory>
     requires few { first + length lists.now ≤ 1024 }
     requires lawful { (index : ℕ) (es : List Event)
-        → slice_get (map (λ v. v.items) lists.now) index ≡ Some es
+        → slice_get (lists_of lists.now) index ≡ Some es
         → IsLawful greatest (first + index) es }
-    ensures { IfOk result
-        (λ l. l ≡ once (edges_made_from first (map (λ v. v.items) lists.now))) }
+    ensures { IfOk result (λ l. l ≡ once (edges_made_from first (lists_of lists.now))) }
 {
     let mut gatherer = Gatherer {
         batch: Batch::new(alloc),
@@ -181,11 +180,8 @@ pub(crate) fn edges_from(
 /// found among those that the thread made before are sorted, thread by thread, and more often where very
 /// many come. It takes memory as there are edges.
 pub fn edges_of(alloc: Global, lists: &[Vec<Event>]) -> Result<EdgeList, Memory>
-    requires few { length lists.now ≤ 1024 }
-    requires lawful { (thread : ℕ) (es : List Event)
-        → slice_get (map (λ v. v.items) lists.now) thread ≡ Some es
-        → IsLawful greatest thread es }
-    ensures { IfOk result (λ l. l ≡ edges (map (λ v. v.items) lists.now)) }
+    requires lawful { AreLawful greatest (lists_of lists.now) }
+    ensures { IfOk result (λ l. l ≡ edges (lists_of lists.now)) }
 {
     edges_from(alloc, 0, lists)
 }
