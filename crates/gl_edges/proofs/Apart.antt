@@ -17,7 +17,7 @@ use Rattle.gl_event.specs.Modes.{mode_cmp}
 use Rattle.gl_edges.specs.Edges.{edges, edges_at, edges_of_list, edges_made_from, once}
 use Rattle.gl_edges.specs.Guards.{guard_cmp}
 use Rattle.gl_edges.specs.Order.{edge_cmp, AreAscending}
-use Rattle.gl_edges.specs.bodies.Sharing.{lists_of, edges_of_share, FollowOn}
+use Rattle.gl_edges.specs.bodies.Sharing.{lists_of_share, edges_of_share, FollowOn}
 use Rattle.gl_edges.specs.declared.edge.Edge.{Edge}
 use Rattle.gl_edges.specs.declared.edge.Sample.{Sample}
 use Rattle.gl_edges.specs.declared.parallel.Share.{Share}
@@ -170,7 +170,7 @@ both_parts lists from middle to forth after within =
     ∙ ap (λ both. once (edges_made_from from both)) (sym (split lists from middle to forth after))
 
 -- the lists of a share, whatever they are made of
-pub map_share : {X : Type 0} (items : X → List Event) (lists : List X) (share : Share) → lists_of (map items lists) share ≡ map items (take (share.to - share.from) (drop share.from lists))
+pub map_share : {X : Type 0} (items : X → List Event) (lists : List X) (share : Share) → lists_of_share (map items lists) share ≡ map items (take (share.to - share.from) (drop share.from lists))
 map_share items lists share = ap (take (share.to - share.from)) (drop-map items share.from lists) ∙ take-map items (share.to - share.from) (drop share.from lists)
 
 -- what is among the first is at the same place of all

@@ -13,7 +13,7 @@ use Rattle.gl_edges.specs.bodies.Seen.{around, edge_inside, edges_at_node, edges
 use Rattle.gl_edges.specs.declared.edge.Edge.{Edge}
 use Rattle.gl_edges.specs.declared.seen.Node.{Node}
 use Rattle.gl_edges.specs.declared.seen.Opened.{Opened}
-use Rattle.gl_edges.specs.declared.seen.Place.{Place}
+use Rattle.gl_edges.specs.declared.seen.Branch.{Branch}
 use Rattle.gl_edges.specs.declared.tracker.Tracker.{Tracker}
 
 -- ---- ways
@@ -50,22 +50,22 @@ way_was ways (n ∷ nodes) i held within is =
     ∙ way_was (ways ++ way_to ways n ∷ []) nodes i held (let more = length-append ways (way_to ways n ∷ []) in omega (arith, within, more)) is
 
 -- the way to a node goes on from the way to its parent
-pub way_of_node : (ways : List (List Opened)) (nodes : List Node) (at : ℕ) (node : Node) (held : List Opened) → slice_get nodes at ≡ Some node → node.place.parent < length ways + at
-    → slice_get (ways_after ways nodes) node.place.parent ≡ Some held → slice_get (ways_after ways nodes) (length ways + at) ≡ Some (held ++ node.place.opened ∷ [])
+pub way_of_node : (ways : List (List Opened)) (nodes : List Node) (at : ℕ) (node : Node) (held : List Opened) → slice_get nodes at ≡ Some node → node.branch.parent < length ways + at
+    → slice_get (ways_after ways nodes) node.branch.parent ≡ Some held → slice_get (ways_after ways nodes) (length ways + at) ≡ Some (held ++ node.branch.opened ∷ [])
 unfolding ways_after
 way_of_node ways [] at node held is above parent = absurd (omega (arith, slice_get_within [] at node is))
 way_of_node ways (n ∷ nodes) zero node held is above parent =
     let same : n ≡ node = get_or_from_slice_get (n ∷ nodes) zero node n is in
-    let was : slice_get ways node.place.parent ≡ Some held = way_was ways (n ∷ nodes) node.place.parent held (omega (arith, above)) parent in
-    let there : way_to ways n ≡ held ++ node.place.opened ∷ [] =
-    subst (λ m. way_to ways m ≡ held ++ node.place.opened ∷ []) (sym same)
-    (ap (λ hs. hs ++ node.place.opened ∷ []) (get_or_from_slice_get ways node.place.parent held [] was)) in
-    let last : slice_get (ways ++ way_to ways n ∷ []) (length ways + zero) ≡ Some (held ++ node.place.opened ∷ []) =
-    subst (λ i. slice_get (ways ++ way_to ways n ∷ []) i ≡ Some (held ++ node.place.opened ∷ [])) (omega arith) (slice_get_last ways (way_to ways n) ∙ ap Some there) in
-    way_stays (ways ++ way_to ways n ∷ []) nodes (length ways + zero) (held ++ node.place.opened ∷ []) last
+    let was : slice_get ways node.branch.parent ≡ Some held = way_was ways (n ∷ nodes) node.branch.parent held (omega (arith, above)) parent in
+    let there : way_to ways n ≡ held ++ node.branch.opened ∷ [] =
+    subst (λ m. way_to ways m ≡ held ++ node.branch.opened ∷ []) (sym same)
+    (ap (λ hs. hs ++ node.branch.opened ∷ []) (get_or_from_slice_get ways node.branch.parent held [] was)) in
+    let last : slice_get (ways ++ way_to ways n ∷ []) (length ways + zero) ≡ Some (held ++ node.branch.opened ∷ []) =
+    subst (λ i. slice_get (ways ++ way_to ways n ∷ []) i ≡ Some (held ++ node.branch.opened ∷ [])) (omega arith) (slice_get_last ways (way_to ways n) ∙ ap Some there) in
+    way_stays (ways ++ way_to ways n ∷ []) nodes (length ways + zero) (held ++ node.branch.opened ∷ []) last
 way_of_node ways (n ∷ nodes) (suc at) node held is above parent =
     let more = length-append ways (way_to ways n ∷ []) in
-    subst (λ i. slice_get (ways_after ways (n ∷ nodes)) i ≡ Some (held ++ node.place.opened ∷ [])) (omega (arith, more))
+    subst (λ i. slice_get (ways_after ways (n ∷ nodes)) i ≡ Some (held ++ node.branch.opened ∷ [])) (omega (arith, more))
     (way_of_node (ways ++ way_to ways n ∷ []) nodes at node held is (omega (arith, more, above)) parent)
 
 -- ---- edges
@@ -86,16 +86,16 @@ noted_append thread ways (n ∷ nodes) node =
 
 -- the edges of a node that was noted are there
 pub noted_has : (thread : ℕ) (ways : List (List Opened)) (nodes : List Node) (at : ℕ) (node : Node) (held : List Opened) → slice_get nodes at ≡ Some node → node.is_noted ≡ true
-    → node.place.parent < length ways + at → slice_get (ways_after ways nodes) node.place.parent ≡ Some held
-    → (edge : Edge) → Contains (edges_inside thread held node.place.opened) edge → Contains (noted_after thread ways nodes) edge
+    → node.branch.parent < length ways + at → slice_get (ways_after ways nodes) node.branch.parent ≡ Some held
+    → (edge : Edge) → Contains (edges_inside thread held node.branch.opened) edge → Contains (noted_after thread ways nodes) edge
 unfolding noted_after ways_after
 noted_has thread ways [] at node held is noted above parent edge there = absurd (omega (arith, slice_get_within [] at node is))
 noted_has thread ways (n ∷ nodes) zero node held is noted above parent edge there =
     let same : n ≡ node = get_or_from_slice_get (n ∷ nodes) zero node n is in
-    let was : slice_get ways node.place.parent ≡ Some held = way_was ways (n ∷ nodes) node.place.parent held (omega (arith, above)) parent in
-    let around_is : around ways node ≡ held = get_or_from_slice_get ways node.place.parent held [] was in
-    let all : edges_at_node thread ways node ≡ edges_inside thread held node.place.opened =
-    ap (λ b. if b then edges_inside thread (around ways node) node.place.opened else []) noted ∙ ap (λ hs. edges_inside thread hs node.place.opened) around_is in
+    let was : slice_get ways node.branch.parent ≡ Some held = way_was ways (n ∷ nodes) node.branch.parent held (omega (arith, above)) parent in
+    let around_is : around ways node ≡ held = get_or_from_slice_get ways node.branch.parent held [] was in
+    let all : edges_at_node thread ways node ≡ edges_inside thread held node.branch.opened =
+    ap (λ b. if b then edges_inside thread (around ways node) node.branch.opened else []) noted ∙ ap (λ hs. edges_inside thread hs node.branch.opened) around_is in
     Contains-append_left (edges_at_node thread ways n) (noted_after thread (ways ++ way_to ways n ∷ []) nodes) edge
     (subst (λ m. Contains (edges_at_node thread ways m) edge) (sym same) (subst (λ es. Contains es edge) (sym all) there))
 noted_has thread ways (n ∷ nodes) (suc at) node held is noted above parent edge there =
@@ -110,44 +110,44 @@ pub root_leads : (nodes : List Node) → LeadsTo nodes 0 []
 root_leads nodes = way_stays ([] ∷ []) nodes 0 [] refl
 
 -- what leads to the parent leads on to the node
-pub leads_found : (nodes : List Node) (place : Place) (is_noted : Bool) (number : ℕ) → IsNode nodes place is_noted number → (held : List Opened) → LeadsTo nodes place.parent held
-    → LeadsTo nodes number (held ++ place.opened ∷ [])
-leads_found nodes place is_noted number is held leads =
-    subst (λ n. LeadsTo nodes n (held ++ place.opened ∷ [])) (omega (arith, is.counts))
-    (way_of_node ([] ∷ []) nodes is.at (with_node place is_noted) held is.stands (omega (arith, is.counts, is.above)) leads)
+pub leads_found : (nodes : List Node) (branch : Branch) (is_noted : Bool) (number : ℕ) → IsNode nodes branch is_noted number → (held : List Opened) → LeadsTo nodes branch.parent held
+    → LeadsTo nodes number (held ++ branch.opened ∷ [])
+leads_found nodes branch is_noted number is held leads =
+    subst (λ n. LeadsTo nodes n (held ++ branch.opened ∷ [])) (omega (arith, is.counts))
+    (way_of_node ([] ∷ []) nodes is.at (with_node branch is_noted) held is.stands (omega (arith, is.counts, is.above)) leads)
 
 -- and to one that is added
-pub leads_added : (old new : List Node) (place : Place) (is_noted : Bool) (number : ℕ) → new ≡ old ++ with_node place is_noted ∷ [] → number ≡ length old + 1
-    → (held : List Opened) → LeadsTo old place.parent held → LeadsTo new number (held ++ place.opened ∷ [])
-leads_added old new place is_noted number added counts held leads =
-    let last : slice_get (ways old ++ way_to (ways old) (with_node place is_noted) ∷ []) (length (ways old)) ≡ Some (held ++ place.opened ∷ []) =
-    slice_get_last (ways old) (way_to (ways old) (with_node place is_noted))
-    ∙ ap (λ hs. Some (hs ++ place.opened ∷ [])) (get_or_from_slice_get (ways old) place.parent held [] leads) in
+pub leads_added : (old new : List Node) (branch : Branch) (is_noted : Bool) (number : ℕ) → new ≡ old ++ with_node branch is_noted ∷ [] → number ≡ length old + 1
+    → (held : List Opened) → LeadsTo old branch.parent held → LeadsTo new number (held ++ branch.opened ∷ [])
+leads_added old new branch is_noted number added counts held leads =
+    let last : slice_get (ways old ++ way_to (ways old) (with_node branch is_noted) ∷ []) (length (ways old)) ≡ Some (held ++ branch.opened ∷ []) =
+    slice_get_last (ways old) (way_to (ways old) (with_node branch is_noted))
+    ∙ ap (λ hs. Some (hs ++ branch.opened ∷ [])) (get_or_from_slice_get (ways old) branch.parent held [] leads) in
     let many = ways_length ([] ∷ []) old in
-    subst (λ nodes. LeadsTo nodes number (held ++ place.opened ∷ [])) (sym added)
-    (subst (λ ws. slice_get ws number ≡ Some (held ++ place.opened ∷ [])) (sym (ways_append ([] ∷ []) old (with_node place is_noted)))
-    (subst (λ n. slice_get (ways old ++ way_to (ways old) (with_node place is_noted) ∷ []) n ≡ Some (held ++ place.opened ∷ [])) (omega (arith, many, counts)) last))
+    subst (λ nodes. LeadsTo nodes number (held ++ branch.opened ∷ [])) (sym added)
+    (subst (λ ws. slice_get ws number ≡ Some (held ++ branch.opened ∷ [])) (sym (ways_append ([] ∷ []) old (with_node branch is_noted)))
+    (subst (λ n. slice_get (ways old ++ way_to (ways old) (with_node branch is_noted) ∷ []) n ≡ Some (held ++ branch.opened ∷ [])) (omega (arith, many, counts)) last))
 
 -- a node that isn't noted adds no edge
-pub noted_stays : (old new : List Node) (place : Place) → new ≡ old ++ with_node place false ∷ [] → (thread : ℕ) → noted thread new ≡ noted thread old
-noted_stays old new place added thread = ap (noted thread) added ∙ noted_append thread ([] ∷ []) old (with_node place false) ∙ append-nil (noted thread old)
+pub noted_stays : (old new : List Node) (branch : Branch) → new ≡ old ++ with_node branch false ∷ [] → (thread : ℕ) → noted thread new ≡ noted thread old
+noted_stays old new branch added thread = ap (noted thread) added ∙ noted_append thread ([] ∷ []) old (with_node branch false) ∙ append-nil (noted thread old)
 
 -- one that is adds those of its acquire
-pub noted_grows : (old new : List Node) (place : Place) → new ≡ old ++ with_node place true ∷ [] → (thread : ℕ) (held : List Opened) → LeadsTo old place.parent held
-    → (edge : Edge) → Contains (noted thread new) edge → Contains (noted thread old) edge ⊎ Contains (edges_inside thread held place.opened) edge
-noted_grows old new place added thread held leads edge there =
-    Contains-append_cases (noted thread old) (edges_inside thread held place.opened) edge
+pub noted_grows : (old new : List Node) (branch : Branch) → new ≡ old ++ with_node branch true ∷ [] → (thread : ℕ) (held : List Opened) → LeadsTo old branch.parent held
+    → (edge : Edge) → Contains (noted thread new) edge → Contains (noted thread old) edge ⊎ Contains (edges_inside thread held branch.opened) edge
+noted_grows old new branch added thread held leads edge there =
+    Contains-append_cases (noted thread old) (edges_inside thread held branch.opened) edge
     (subst (λ es. Contains es edge)
     (ap (noted thread) added
-    ∙ noted_append thread ([] ∷ []) old (with_node place true)
-    ∙ ap (λ hs. noted thread old ++ edges_inside thread hs place.opened) (get_or_from_slice_get (ways old) place.parent held [] leads))
+    ∙ noted_append thread ([] ∷ []) old (with_node branch true)
+    ∙ ap (λ hs. noted thread old ++ edges_inside thread hs branch.opened) (get_or_from_slice_get (ways old) branch.parent held [] leads))
     there)
 
 -- the edges of a noted acquire are there
-pub noted_found : (nodes : List Node) (place : Place) (number : ℕ) → IsNode nodes place true number → (thread : ℕ) (held : List Opened) → LeadsTo nodes place.parent held
-    → (edge : Edge) → Contains (edges_inside thread held place.opened) edge → Contains (noted thread nodes) edge
-noted_found nodes place number is thread held leads edge there =
-    noted_has thread ([] ∷ []) nodes is.at (with_node place true) held is.stands refl (omega (arith, is.counts, is.above)) leads edge there
+pub noted_found : (nodes : List Node) (branch : Branch) (number : ℕ) → IsNode nodes branch true number → (thread : ℕ) (held : List Opened) → LeadsTo nodes branch.parent held
+    → (edge : Edge) → Contains (edges_inside thread held branch.opened) edge → Contains (noted thread nodes) edge
+noted_found nodes branch number is thread held leads edge there =
+    noted_has thread ([] ∷ []) nodes is.at (with_node branch true) held is.stands refl (omega (arith, is.counts, is.above)) leads edge there
 
 -- ---- the next acquire
 

@@ -1,7 +1,7 @@
 -- A thread that is followed event by event.
-use Rattle.std.specs.Prelude.{◌≡◌, ℕ, List}
+use Rattle.std.specs.Prelude.{◌≡◌, ℕ, List, [], ◌∷◌, ◌++◌}
 use Rattle.gl_event.specs.Bounds.{greatest}
-use Rattle.gl_event.specs.States.{StandsAfter, MayFollow}
+use Rattle.gl_event.specs.States.{State, StandsAfter, MayFollow}
 use Rattle.gl_event.specs.declared.events.Event.{Event}
 use Rattle.gl_edges.specs.declared.tracker.Tracker.{Tracker}
 
@@ -11,6 +11,20 @@ pub record Follows (thread : ℕ) (es : List Event) (tracker : Tracker) : Type 0
   pub of_thread : tracker.thread ≡ thread
   -- what is known of it after them
   pub stands : StandsAfter es tracker.state
+
+-- this holds of each list of events after which this is known of a thread
+abbrev pub ForEachStanding : State → (List Event → Type 0) → Type 0
+ForEachStanding s P = (es : List Event) → StandsAfter es s → P es
+
+-- this holds of each thread and list of events that the tracker follows
+abbrev pub ForEachFollowed : Tracker → (ℕ → List Event → Type 0) → Type 0
+ForEachFollowed tracker P =
+    (thread : ℕ) (es : List Event) → Follows thread es tracker → P thread es
+
+-- the tracker follows this event after those that it followed before
+abbrev pub HasAdvanced : Tracker → Event → Tracker → Type 0
+HasAdvanced before event after =
+    ForEachFollowed before (λ thread es. Follows thread (es ++ event ∷ []) after)
 
 -- the tracker may be given this event next, under the greatest limits
 abbrev pub IsNextFor : Tracker → Event → Type 0

@@ -2,12 +2,12 @@
 ghost use Rattle.std.specs.Prelude.{◌≡◌, ◌≤◌, ◌+◌, ℕ, List, [], ◌∷◌, ◌++◌, map, length, slice_get, Some, OnOk, IfOk};
 ghost use Rattle.gl_event.specs.Bounds.{greatest};
 ghost use Rattle.gl_event.specs.Events.{depth};
-ghost use Rattle.gl_event.specs.Lawful.{IsLawful};
+ghost use Rattle.gl_event.specs.Lawful.{AreLawful, IsLawful, lists_of};
 ghost use Rattle.gl_event.specs.declared.events.Event.{Event};
 ghost use Rattle.gl_edges.specs.Edges.{edges_wanting, edges_after, edges_of_list, edges_made_from, once, edges};
-ghost use Rattle.gl_edges.specs.bodies.Gatherers.{Gathers, pair_for};
-ghost use Rattle.gl_edges.specs.bodies.Tables.{IsTableOf};
-ghost use Rattle.gl_edges.specs.Tracking.{Follows, IsNextFor};
+ghost use Rattle.gl_edges.specs.bodies.Gatherers.{HasGathered, pair_for};
+ghost use Rattle.gl_edges.specs.bodies.Tables.{HasAdded};
+ghost use Rattle.gl_edges.specs.Tracking.{ForEachFollowed, HasAdvanced, IsNextFor};
 ghost use Rattle.gl_edges.specs.declared.edge.Edge.{Edge};
 ghost use Rattle.gl_edges.specs.declared.edge.Sample.{Sample};
 
@@ -44,9 +44,9 @@ impl Gatherer {
         loc: LocId,
     ) -> Result<(), Memory>
         ensures { OnOk result
-            ((pairs : List (Edge × Sample)) → Gathers pairs tracker.now.state.events self.old
-            → Gathers (pairs ++ map (pair_for tracker.now wanted mode loc) tracker.now.state.held)
-            (tracker.now.state.events + 1) self.new) }
+            (HasGathered tracker.now.state.events
+            (map (pair_for tracker.now wanted mode loc) tracker.now.state.held)
+            self.old self.new) }
     {
         let room = self.batch.len().saturating_mul(2).saturating_add(SPARE);
         if self.seen.note(tracker, wanted, mode, room)? {
@@ -66,9 +66,8 @@ impl Gatherer {
         loc: LocId,
     ) -> Result<(), Memory>
         ensures table { OnOk result
-            ((pairs : List (Edge × Sample)) → IsTableOf self.old.batch pairs
-            → IsTableOf self.new.batch
-            (pairs ++ map (pair_for tracker.now wanted mode loc) tracker.now.state.held)) }
+            (HasAdded (map (pair_for tracker.now wanted mode loc) tracker.now.state.held)
+            self.old.batch self.new.batch) }
         ensures seen { OnOk result (self.new.seen ≡ self.old.seen) }
     {
         let entries = tracker.state.entries();
@@ -94,9 +93,9 @@ impl Gatherer {
     // Puts in the edges that the next event of the thread makes.
     fn add_edges(&mut self, alloc: Global, tracker: &Tracker, event: &Event) -> Result<(), Memory>
         ensures { OnOk result
-            ((thread : ℕ) (es : List Event) (pairs : List (Edge × Sample))
-            → Follows thread es tracker.now → Gathers pairs (length es) self.old
-            → Gathers (pairs ++ edges_after thread es event.now) (length es + 1) self.new) }
+            (ForEachFollowed tracker.now
+            (λ thread es. HasGathered (length es) (edges_after thread es event.now)
+            self.old self.new)) }
     {
         let Some(wanted) = event.wanted() else {
             return Ok(());
@@ -111,12 +110,10 @@ impl Gatherer {
     fn take(&mut self, alloc: Global, tracker: &mut Tracker, event: Event) -> Result<(), Memory>
         requires { IsNextFor tracker.old event }
         ensures gathers { OnOk result
-            ((thread : ℕ) (es : List Event) (pairs : List (Edge × Sample))
-            → Follows thread es tracker.old → Gathers pairs (length es) self.old
-            → Gathers (pairs ++ edges_after thread es event) (length es + 1) self.new) }
-        ensures follows { OnOk result
-            ((thread : ℕ) (es : List Event) → Follows thread es tracker.old
-            → Follows thread (es ++ event ∷ []) tracker.new) }
+            (ForEachFollowed tracker.old
+            (λ thread es. HasGathered (length es) (edges_after thread es event)
+            self.old self.new)) }
+        ensures follows { OnOk result (HasAdvanced tracker.old event tracker.new) }
     {
         self.add_edges(alloc, tracker, &event)?;
         tracker.advance(event);
@@ -127,8 +124,7 @@ impl Gatherer {
     fn take_list(&mut self, alloc: Global, thread: ThreadId, list: &[Event]) -> Result<(), Memory>
         requires { IsLawful greatest thread list.now }
         ensures { OnOk result
-            ((pairs : List (Edge × Sample)) → IsTableOf self.old.batch pairs
-            → IsTableOf self.new.batch (pairs ++ edges_of_list thread list.now)) }
+            (HasAdded (edges_of_list thread list.now) self.old.batch self.new.batch) }
     {
         self.seen.begin(thread);
         let mut tracker = Tracker::new(thread);
@@ -148,10 +144,9 @@ pub(crate) fn edges_from(
 ) -> Result<EdgeList, Memory>
     requires few { first + length lists.now ≤ 1024 }
     requires lawful { (index : ℕ) (es : List Event)
-        → slice_get (map (λ v. v.items) lists.now) index ≡ Some es
+        → slice_get (lists_of lists.now) index ≡ Some es
         → IsLawful greatest (first + index) es }
-    ensures { IfOk result
-        (λ l. l ≡ once (edges_made_from first (map (λ v. v.items) lists.now))) }
+    ensures { IfOk result (λ l. l ≡ once (edges_made_from first (lists_of lists.now))) }
 {
     let mut gatherer = Gatherer {
         batch: Batch::new(alloc),
@@ -181,11 +176,8 @@ pub(crate) fn edges_from(
 /// found among those that the thread made before are sorted, thread by thread, and more often where very
 /// many come. It takes memory as there are edges.
 pub fn edges_of(alloc: Global, lists: &[Vec<Event>]) -> Result<EdgeList, Memory>
-    requires few { length lists.now ≤ 1024 }
-    requires lawful { (thread : ℕ) (es : List Event)
-        → slice_get (map (λ v. v.items) lists.now) thread ≡ Some es
-        → IsLawful greatest thread es }
-    ensures { IfOk result (λ l. l ≡ edges (map (λ v. v.items) lists.now)) }
+    requires lawful { AreLawful greatest (lists_of lists.now) }
+    ensures { IfOk result (λ l. l ≡ edges (lists_of lists.now)) }
 {
     edges_from(alloc, 0, lists)
 }

@@ -1,9 +1,8 @@
 //! The edges of whole lists of events, by several threads.
-ghost use Rattle.std.specs.Prelude.{◌≡◌, ◌≤◌, ◌<◌, ◌+◌, ℕ, List, [], ◌++◌, map, length, slice_get, Some, IfOk};
+ghost use Rattle.std.specs.Prelude.{◌≡◌, ◌≤◌, ◌<◌, ◌+◌, [], ◌++◌, map, length, IfOk};
 ghost use Rattle.std.specs.List.{flat_map};
 ghost use Rattle.gl_event.specs.Bounds.{greatest};
-ghost use Rattle.gl_event.specs.Lawful.{IsLawful};
-ghost use Rattle.gl_event.specs.declared.events.Event.{Event};
+ghost use Rattle.gl_event.specs.Lawful.{AreLawful, lists_of};
 ghost use Rattle.gl_edges.specs.Edges.{edges};
 ghost use Rattle.gl_edges.specs.bodies.Sharing.{edges_of_share, FollowOn};
 ghost use Rattle.gl_edges.specs.declared.parallel.Share.{Share};
@@ -69,27 +68,20 @@ fn edges_of_each(
     lists: &[Vec<Event>],
     shares: &[Share],
 ) -> Result<Vec<EdgeList>, Memory>
-    requires few { length lists.now ≤ 1024 }
-    requires lawful { (thread : ℕ) (es : List Event)
-        → slice_get (map (λ v. v.items) lists.now) thread ≡ Some es
-        → IsLawful greatest thread es }
+    requires lawful { AreLawful greatest (lists_of lists.now) }
     requires dealt { FollowOn 0 shares.now (length lists.now) }
     ensures { IfOk result
-        (λ pieces. pieces.items
-        ≡ map (edges_of_share (map (λ v. v.items) lists.now)) shares.now) }
+        (λ pieces. pieces.items ≡ map (edges_of_share (lists_of lists.now)) shares.now) }
 {
     let found: Result<Vec<EdgeList>, Memory> = shares
         .par_iter()
         .map(
             |share: &Share| -> Result<EdgeList, Memory>
                 requires { (share.now.from ≤ share.now.to)
-                    × (share.now.to ≤ length lists.now) × (length lists.now ≤ 1024)
-                    × ((thread : ℕ) (es : List Event)
-                    → slice_get (map (λ v. v.items) lists.now) thread ≡ Some es
-                    → IsLawful greatest thread es) }
+                    × (share.now.to ≤ length lists.now)
+                    × AreLawful greatest (lists_of lists.now) }
                 ensures { IfOk result
-                    (λ l. l
-                    ≡ edges_of_share (map (λ v. v.items) lists.entry.now) share.now) }
+                    (λ l. l ≡ edges_of_share (lists_of lists.entry.now) share.now) }
             { edges_from(alloc, share.from as u32, &lists[share.from..share.to]) },
         )
         .with_min_len(1)
@@ -120,11 +112,8 @@ pub fn edges_of_parallel(
     lists: &[Vec<Event>],
     threads: usize,
 ) -> Result<EdgeList, Memory>
-    requires few { length lists.now ≤ 1024 }
-    requires lawful { (thread : ℕ) (es : List Event)
-        → slice_get (map (λ v. v.items) lists.now) thread ≡ Some es
-        → IsLawful greatest thread es }
-    ensures { IfOk result (λ l. l ≡ edges (map (λ v. v.items) lists.now)) }
+    requires lawful { AreLawful greatest (lists_of lists.now) }
+    ensures { IfOk result (λ l. l ≡ edges (lists_of lists.now)) }
 {
     let events = events_in(lists);
     if threads < 2 || events <= ALONE {

@@ -16,7 +16,7 @@
 //! has room for, and an acquire that isn't noted has its edges made again. What is noted isn't always
 //! found again, since a node's number is only guessed: that costs the same.
 ghost use Rattle.std.specs.Prelude.{◌≡◌, ◌⊎◌, ◌+◌, ℕ, List, [], ◌∷◌, ◌++◌, map, length, Contains, IsTrue, IfOk, IfSome, OnOk};
-ghost use Rattle.gl_edges.specs.bodies.Seen.{edges_inside, edges_now, noted, opened_of, with_node, IsNode, LeadsTo};
+ghost use Rattle.gl_edges.specs.bodies.Seen.{edges_inside, edges_now, noted, opened_of, with_node, HasNotedAlike, IsEndOf, IsNode, LeadsTo};
 ghost use Rattle.gl_edges.specs.declared.edge.Edge.{Edge};
 ghost use Rattle.gl_edges.specs.declared.seen.Opened.{Opened};
 
@@ -28,7 +28,7 @@ use std::marker::Model;
 // So many slots there are for guesses at first: a power of two.
 const SLOTS: usize = 256;
 
-// A place's number is guessed at so many slots in a row.
+// The number of a branch's node is guessed at so many slots in a row.
 const ROW: usize = 8;
 
 // Odd multipliers: factors that differ have products that differ, if not always in the upper bits. A bit of a
@@ -49,14 +49,14 @@ struct Opened {
 
 /// A lock that was taken inside those of the node of this number: 0 is the root, where none is held.
 #[derive(Clone, Copy)]
-struct Place {
+struct Branch {
     parent: usize,
     opened: Opened,
 }
 
-impl Place {
+impl Branch {
     // Whether the two are the same.
-    fn is(&self, other: &Place) -> bool
+    fn is(&self, other: &Branch) -> bool
         ensures { IsTrue result → self.now ≡ other.now }
     {
         self.parent == other.parent
@@ -69,7 +69,7 @@ impl Place {
 /// A node of the tree, and whether it stands for an acquire whose edges were noted.
 #[derive(Clone, Copy)]
 struct Node {
-    place: Place,
+    branch: Branch,
     is_noted: bool,
 }
 
@@ -78,7 +78,7 @@ struct Node {
 #[derive(Drop)]
 struct Tree {
     nodes: Vec<Node>,
-    // Numbers of nodes, each in the row of slots of its place, if it finds room there; 0 is none. What is
+    // Numbers of nodes, each in the row of slots of its branch, if it finds room there; 0 is none. What is
     // taken from here is compared. A node whose number isn't here is made a second time.
     guesses: Vec<u32>,
     // The number of the node that was come to last with so many locks around it, at an acquire or as a held
@@ -115,26 +115,26 @@ impl Tree {
         self.guesses.clear();
     }
 
-    // Whether the node of this number stands at this place: then, whether it was noted.
-    fn look(&self, number: usize, place: &Place) -> Option<bool>
-        ensures { IfSome result (λ is_noted. IsNode self.now place.now is_noted number) }
+    // Whether the node of this number ends this branch: then, whether it was noted.
+    fn look(&self, number: usize, branch: &Branch) -> Option<bool>
+        ensures { IfSome result (λ is_noted. IsNode self.now branch.now is_noted number) }
     {
-        if number <= place.parent {
+        if number <= branch.parent {
             return None;
         }
         let node = self.nodes.get(number - 1)?;
-        if !node.place.is(place) {
+        if !node.branch.is(branch) {
             return None;
         }
         Some(node.is_noted)
     }
 
-    // The first slot of a place's row.
-    fn slot(&self, place: &Place) -> usize {
-        let opened = &place.opened;
+    // The first slot of a branch's row.
+    fn slot(&self, branch: &Branch) -> usize {
+        let opened = &branch.opened;
         let lock = opened.lock.number() as usize;
         let is_shared = opened.mode == LockMode::Shared;
-        let mixed = place
+        let mixed = branch
             .parent
             .wrapping_mul(OF_PARENT)
             .wrapping_add((opened.first as usize).wrapping_mul(OF_FIRST))
@@ -149,11 +149,11 @@ impl Tree {
         self.guesses.len().wrapping_sub(1)
     }
 
-    // The number of a node at this place, where it is found, and whether it was noted.
-    fn find(&self, place: &Place) -> Option<(usize, bool)>
-        ensures { IfSome result (λ r. IsNode self.now place.now r.1 r.0) }
+    // The number of a node that ends this branch, where it is found, and whether it was noted.
+    fn find(&self, branch: &Branch) -> Option<(usize, bool)>
+        ensures { IfSome result (λ r. IsNode self.now branch.now r.1 r.0) }
     {
-        let slot = self.slot(place);
+        let slot = self.slot(branch);
         for offset in 0..ROW {
             let guess = *self
                 .guesses
@@ -161,37 +161,37 @@ impl Tree {
             if guess == 0 {
                 return None;
             }
-            if let Some(is_noted) = self.look(guess as usize, place) {
+            if let Some(is_noted) = self.look(guess as usize, branch) {
                 return Some((guess as usize, is_noted));
             }
         }
         None
     }
 
-    // The slot for the number of a node at this place: the first in its row with none, or with that of
+    // The slot for the number of a node that ends this branch: the first in its row with none, or with that of
     // another node there, and else the first of all.
-    fn slot_for(&self, place: &Place) -> usize {
-        let slot = self.slot(place);
+    fn slot_for(&self, branch: &Branch) -> usize {
+        let slot = self.slot(branch);
         for offset in 0..ROW {
             let next = slot.wrapping_add(offset) & self.last_slot();
             let Some(guess) = self.guesses.get(next) else {
                 return slot;
             };
-            if *guess == 0 || self.look(*guess as usize, place).is_some() {
+            if *guess == 0 || self.look(*guess as usize, branch).is_some() {
                 return next;
             }
         }
         slot
     }
 
-    // Guesses this number at the place from now on, if there is a slot for it.
-    fn guess(&mut self, place: &Place, number: usize)
+    // Guesses this number for the branch from now on, if there is a slot for it.
+    fn guess(&mut self, branch: &Branch, number: usize)
         ensures { self.new ≡ self.old }
     {
         let Ok(number) = u32::try_from(number) else {
             return;
         };
-        let slot = self.slot_for(place);
+        let slot = self.slot_for(branch);
         if let Some(guess) = self.guesses.get_mut(slot) {
             *guess = number;
         }
@@ -202,8 +202,8 @@ impl Tree {
         ensures { self.new ≡ self.old }
     {
         for at in 0..self.nodes.len() {
-            let place = self.nodes[at].place;
-            self.guess(&place, at + 1);
+            let branch = self.nodes[at].branch;
+            self.guess(&branch, at + 1);
         }
     }
 
@@ -222,54 +222,47 @@ impl Tree {
         Ok(())
     }
 
-    // Adds a node at this place, and answers its number.
-    fn add(&mut self, place: &Place, is_noted: bool) -> Result<usize, Memory>
-        ensures added { OnOk result (self.new ≡ self.old ++ with_node place.now is_noted ∷ []) }
+    // Adds a node that ends this branch, and answers its number.
+    fn add(&mut self, branch: &Branch, is_noted: bool) -> Result<usize, Memory>
+        ensures added { OnOk result
+            (self.new ≡ self.old ++ with_node branch.now is_noted ∷ []) }
         ensures number { IfOk result (λ number. number ≡ length self.old + 1) }
     {
         self.widen()?;
         self.nodes.push(Node {
-            place: *place,
+            branch: *branch,
             is_noted,
         })?;
         let number = self.nodes.len();
-        self.guess(place, number);
+        self.guess(branch, number);
         Ok(number)
     }
 
-    // The number of the node at this place, which is made where it isn't there, if there is room.
-    fn node_at(&mut self, place: Place, room: usize) -> Result<Option<usize>, Memory>
-        ensures leads { IfOk result
-            (λ found. IfSome found
-            (λ number. (held : List Opened) → LeadsTo self.old place.parent held
-            → LeadsTo self.new number (held ++ place.opened ∷ []))) }
-        ensures noted { OnOk result
-            ((thread : ℕ) → noted thread self.new ≡ noted thread self.old) }
+    // The number of the node that ends this branch, which is made where it isn't there, if there is room.
+    fn node_at(&mut self, branch: Branch, room: usize) -> Result<Option<usize>, Memory>
+        ensures leads { IfOk result (λ found. IfSome found (IsEndOf branch self.old self.new)) }
+        ensures noted { OnOk result (HasNotedAlike self.old self.new) }
     {
-        if let Some((number, _)) = self.find(&place) {
+        if let Some((number, _)) = self.find(&branch) {
             return Ok(Some(number));
         }
         if self.nodes.len() >= room {
             return Ok(None);
         }
-        let number = self.add(&place, false)?;
+        let number = self.add(&branch, false)?;
         Ok(Some(number))
     }
 
-    // The same, for a place with so many locks around it: most often the node is the latest there.
-    fn step(&mut self, depth: usize, place: Place, room: usize) -> Result<Option<usize>, Memory>
-        ensures leads { IfOk result
-            (λ found. IfSome found
-            (λ number. (held : List Opened) → LeadsTo self.old place.parent held
-            → LeadsTo self.new number (held ++ place.opened ∷ []))) }
-        ensures noted { OnOk result
-            ((thread : ℕ) → noted thread self.new ≡ noted thread self.old) }
+    // The same, for a branch with so many locks around it: most often the node is the latest there.
+    fn step(&mut self, depth: usize, branch: Branch, room: usize) -> Result<Option<usize>, Memory>
+        ensures leads { IfOk result (λ found. IfSome found (IsEndOf branch self.old self.new)) }
+        ensures noted { OnOk result (HasNotedAlike self.old self.new) }
     {
         let latest = *self.latest.get(depth).unwrap_or(&0);
-        if let Some(_) = self.look(latest, &place) {
+        if let Some(_) = self.look(latest, &branch) {
             return Ok(Some(latest));
         }
-        let Some(number) = self.node_at(place, room)? else {
+        let Some(number) = self.node_at(branch, room)? else {
             return Ok(None);
         };
         self.come_to(depth, number);
@@ -290,8 +283,7 @@ impl Tree {
         ensures leads { IfOk result
             (λ found. IfSome found
             (λ number. LeadsTo self.new number (map opened_of entries.now))) }
-        ensures noted { OnOk result
-            ((thread : ℕ) → noted thread self.new ≡ noted thread self.old) }
+        ensures noted { OnOk result (HasNotedAlike self.old self.new) }
     {
         let mut parent = 0;
         for (depth, entry) in entries.iter().enumerate() {
@@ -300,7 +292,7 @@ impl Tree {
                 mode: entry.mode,
                 first: entry.seg,
             };
-            let Some(number) = self.step(depth, Place { parent, opened }, room)? else {
+            let Some(number) = self.step(depth, Branch { parent, opened }, room)? else {
                 return Ok(None);
             };
             parent = number;
@@ -308,28 +300,28 @@ impl Tree {
         Ok(Some(parent))
     }
 
-    // Notes an acquire at this place, with so many locks around it, if there is room. The answer is
+    // Notes an acquire that is this branch, with so many locks around it, if there is room. The answer is
     // `true` only where it was noted before.
-    fn note(&mut self, depth: usize, place: Place, room: usize) -> Result<bool, Memory>
+    fn note(&mut self, depth: usize, branch: Branch, room: usize) -> Result<bool, Memory>
         ensures known { IfOk result
             (λ known. IsTrue known → (thread : ℕ) (held : List Opened)
-            → LeadsTo self.old place.parent held → (edge : Edge)
-            → Contains (edges_inside thread held place.opened) edge
+            → LeadsTo self.old branch.parent held → (edge : Edge)
+            → Contains (edges_inside thread held branch.opened) edge
             → Contains (noted thread self.old) edge) }
         ensures noted { OnOk result
-            ((thread : ℕ) (held : List Opened) → LeadsTo self.old place.parent held
+            ((thread : ℕ) (held : List Opened) → LeadsTo self.old branch.parent held
             → (edge : Edge) → Contains (noted thread self.new) edge
             → Contains (noted thread self.old) edge
-            ⊎ Contains (edges_inside thread held place.opened) edge) }
+            ⊎ Contains (edges_inside thread held branch.opened) edge) }
     {
-        if let Some((number, true)) = self.find(&place) {
+        if let Some((number, true)) = self.find(&branch) {
             self.come_to(depth, number);
             return Ok(true);
         }
         if self.nodes.len() >= room {
             return Ok(false);
         }
-        let number = self.add(&place, true)?;
+        let number = self.add(&branch, true)?;
         self.come_to(depth, number);
         Ok(false)
     }
@@ -406,6 +398,6 @@ impl Seen {
             first: tracker.state.segment(),
         };
         self.tree
-            .note(entries.len(), Place { parent, opened }, room)
+            .note(entries.len(), Branch { parent, opened }, room)
     }
 }

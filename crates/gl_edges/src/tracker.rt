@@ -1,12 +1,10 @@
 //! A thread that is followed event by event.
-ghost use Rattle.std.specs.Prelude.{◌≡◌, ◌≢◌, ℕ, List, [], ◌∷◌, ◌++◌, map, take, length, Contains, Any, IfOk, OnOk, OnErr};
-ghost use Rattle.gl_event.specs.declared.events.Event.{Event};
+ghost use Rattle.std.specs.Prelude.{◌≡◌, ◌≢◌, [], ◌∷◌, ◌++◌, map, take, length, Contains, Any, IfOk, OnOk, OnErr};
 ghost use Rattle.gl_event.specs.Events as events;
-ghost use Rattle.gl_event.specs.States.{StandsAfter};
 ghost use Rattle.gl_edges.specs.Edges.{edges_at, edges_after, pair_at};
 ghost use Rattle.gl_edges.specs.Guards.{guards_of};
 ghost use Rattle.gl_edges.specs.Order.{AreAscending};
-ghost use Rattle.gl_edges.specs.Tracking.{Follows, IsNextFor};
+ghost use Rattle.gl_edges.specs.Tracking.{Follows, ForEachFollowed, ForEachStanding, HasAdvanced, IsNextFor};
 
 use crate::edge::{Edge, Sample};
 use crate::guards::Guards;
@@ -41,15 +39,14 @@ impl Tracker {
     /// An acquire takes a step for each pair of locks that are held.
     pub fn step(&mut self, alloc: Global, event: Event) -> Result<Vec<(Edge, Sample)>, Memory>
         requires { IsNextFor self.old event }
-        ensures edges { (thread : ℕ) (es : List Event) → Follows thread es self.old
-            → IfOk result (λ v. v.items ≡ edges_at thread (es ++ event ∷ []) (length es)) }
+        ensures edges { ForEachFollowed self.old
+            (λ thread es. IfOk result
+            (λ v. v.items ≡ edges_at thread (es ++ event ∷ []) (length es))) }
         ensures ascending { IfOk result (λ v. AreAscending v.items) }
-        ensures follows { OnOk result
-            ((thread : ℕ) (es : List Event) → Follows thread es self.old
-            → Follows thread (es ++ event ∷ []) self.new) }
+        ensures follows { OnOk result (HasAdvanced self.old event self.new) }
         ensures unchanged { OnErr result (self.new ≡ self.old) }
-        ensures room { (thread : ℕ) (es : List Event) → Follows thread es self.old
-            → OnErr result (edges_at thread (es ++ event ∷ []) (length es) ≢ []) }
+        ensures room { ForEachFollowed self.old
+            (λ thread es. OnErr result (edges_at thread (es ++ event ∷ []) (length es) ≢ [])) }
     {
         let edges = self.next_edges(alloc, &event)?;
         self.advance(event);
@@ -59,10 +56,10 @@ impl Tracker {
     /// The edges that the event would make as the next one, ascending: what `step` answers. It isn't
     /// taken. Where it makes none no memory is taken.
     pub fn next_edges(&self, alloc: Global, event: &Event) -> Result<Vec<(Edge, Sample)>, Memory>
-        ensures edges { (thread : ℕ) (es : List Event) → Follows thread es self.now
-            → IfOk result (λ v. v.items ≡ edges_after thread es event.now) }
-        ensures room { (thread : ℕ) (es : List Event) → Follows thread es self.now
-            → OnErr result (edges_after thread es event.now ≢ []) }
+        ensures edges { ForEachFollowed self.now
+            (λ thread es. IfOk result (λ v. v.items ≡ edges_after thread es event.now)) }
+        ensures room { ForEachFollowed self.now
+            (λ thread es. OnErr result (edges_after thread es event.now ≢ [])) }
     {
         next_edges(alloc, self.thread, &self.state, event)
     }
@@ -71,8 +68,7 @@ impl Tracker {
     /// It takes no memory.
     pub fn advance(&mut self, event: Event)
         requires { IsNextFor self.old event }
-        ensures { (thread : ℕ) (es : List Event) → Follows thread es self.old
-            → Follows thread (es ++ event ∷ []) self.new }
+        ensures { HasAdvanced self.old event self.new }
     {
         // the locks let what is lawful next come
         let _ = self.state.take(event);
@@ -89,10 +85,10 @@ pub fn next_edges(
     state: &ThreadState,
     event: &Event,
 ) -> Result<Vec<(Edge, Sample)>, Memory>
-    ensures edges { (es : List Event) → StandsAfter es state.now
-        → IfOk result (λ v. v.items ≡ edges_after thread es event.now) }
-    ensures room { (es : List Event) → StandsAfter es state.now
-        → OnErr result (edges_after thread es event.now ≢ []) }
+    ensures edges { ForEachStanding state.now
+        (λ es. IfOk result (λ v. v.items ≡ edges_after thread es event.now)) }
+    ensures room { ForEachStanding state.now
+        (λ es. OnErr result (edges_after thread es event.now ≢ [])) }
 {
     let mut made = Vec::new(alloc);
     add_next_edges(alloc, thread, state, event, &mut made)?;
@@ -111,11 +107,12 @@ pub fn add_next_edges(
     event: &Event,
     made: &mut Vec<(Edge, Sample)>,
 ) -> Result<(), Memory>
-    ensures added { (es : List Event) → StandsAfter es state.now
-        → OnOk result (made.new.items ≡ made.old.items ++ edges_after thread es event.now) }
+    ensures added { ForEachStanding state.now
+        (λ es. OnOk result
+        (made.new.items ≡ made.old.items ++ edges_after thread es event.now)) }
     ensures unchanged { OnErr result (made.new.items ≡ made.old.items) }
-    ensures room { (es : List Event) → StandsAfter es state.now
-        → OnErr result (edges_after thread es event.now ≢ []) }
+    ensures room { ForEachStanding state.now
+        (λ es. OnErr result (edges_after thread es event.now ≢ [])) }
 {
     let Some(wanted) = event.wanted() else {
         return Ok(());
@@ -152,9 +149,9 @@ fn push_edges(
     loc: LocId,
     made: &mut Vec<(Edge, Sample)>,
 ) -> Result<(), Memory>
-    ensures pushed { (es : List Event) → StandsAfter es state.now
-        → OnOk result (made.new.items
-        ≡ made.old.items ++ map (pair_at thread es wanted mode loc) (events.held es)) }
+    ensures pushed { ForEachStanding state.now
+        (λ es. OnOk result (made.new.items
+        ≡ made.old.items ++ map (pair_at thread es wanted mode loc) (events.held es))) }
     ensures kept { take (length made.old.items) made.new.items ≡ made.old.items }
     ensures room { OnErr result (state.now.held ≢ []) }
 {
@@ -188,8 +185,9 @@ fn pair_to(
     loc: LocId,
 ) -> (Edge, Sample)
     requires { Any (λ h. h.lock ≡ held) state.now.held }
-    ensures { (es : List Event) → StandsAfter es state.now → guards ≡ guards_of state.now.held
-        → result ≡ pair_at thread es wanted mode loc held }
+    ensures { ForEachStanding state.now
+        (λ es. guards ≡ guards_of state.now.held
+        → result ≡ pair_at thread es wanted mode loc held) }
 {
     let entry = entry_for(state.entries(), held);
     let edge = Edge {

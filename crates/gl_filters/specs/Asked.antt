@@ -1,9 +1,25 @@
 -- What a query asks for, and its ranges.
-use Rattle.std.specs.Prelude.{ℕ, ◌≤◌, ◌||◌, Option, Some, None, if◌then◌else◌, nat_lt}
+use Rattle.std.specs.Prelude.{ℕ, ◌≤◌, ◌||◌, List, Option, Some, None, codes, if◌then◌else◌, nat_lt}
+use Rattle.std.specs.Str.{bytes_eq}
 use Rattle.gl_filters.specs.declared.query.TheConstants.{MAX_LEN, MAX_CYCLES}
 use Rattle.gl_filters.specs.declared.query.Mode.{Mode}
+use Rattle.gl_filters.specs.declared.query.Mode.TheVariants.{Basic, Guarded, Full}
 use Rattle.gl_filters.specs.declared.query.BadQuery.{BadQuery}
 use Rattle.gl_filters.specs.declared.query.BadQuery.TheVariants.{Len, Max}
+
+-- the word for a mode
+abbrev pub mode_name : Mode → List ℕ
+mode_name Basic = codes "basic"
+mode_name Guarded = codes "guarded"
+mode_name Full = codes "full"
+
+-- the mode that a word stands for
+abbrev pub mode_named : List ℕ → Option Mode
+mode_named word =
+    if bytes_eq word (mode_name Basic) then Some Basic
+    else (if bytes_eq word (mode_name Guarded) then Some Guarded
+    else (if bytes_eq word (mode_name Full) then Some Full
+    else None))
 
 -- the mode, the greatest number of edges of a cycle, and the greatest number of cycles
 pub record Asked : Type 0 where

@@ -22,6 +22,38 @@ pub enum Mode {
     Full,
 }
 
+impl Mode {
+    ghost use Rattle.gl_filters.specs.Asked.{mode_name, mode_named};
+
+    /// The word for the mode, in commands and in reports.
+    pub fn name(self) -> &'static str
+        ensures value { result.now ≡ mode_name self }
+        ensures back { mode_named result.now ≡ Some self }
+    {
+        match self {
+            Mode::Basic => "basic",
+            Mode::Guarded => "guarded",
+            Mode::Full => "full",
+        }
+    }
+
+    /// The mode that the word stands for, if it is that of one.
+    pub fn named(word: &str) -> Option<Mode>
+        ensures value { result ≡ mode_named word.now }
+    {
+        if word == Mode::Basic.name() {
+            return Some(Mode::Basic);
+        }
+        if word == Mode::Guarded.name() {
+            return Some(Mode::Guarded);
+        }
+        if word == Mode::Full.name() {
+            return Some(Mode::Full);
+        }
+        None
+    }
+}
+
 /// What of a query is out of its range.
 #[derive(Clone, Copy, Debug, PartialEq, Eq)]
 pub enum BadQuery {

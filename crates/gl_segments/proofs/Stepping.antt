@@ -5,11 +5,12 @@ use Rattle.std.specs.Option.{option_map, option_map_or}
 use Rattle.std.proofs.lemmas.Bool.{cases_lt}
 use Rattle.std.proofs.lemmas.List.{length-map, get_or_past}
 use Rattle.std.proofs.lemmas.Option.{slice_get_within, same_Some, slice_get-map}
+use Rattle.gl_event.specs.Bounds.{greatest}
 use Rattle.gl_event.specs.Events.{closes, segment}
+use Rattle.gl_event.specs.Lawful.{AreLawful}
 use Rattle.gl_event.specs.declared.events.Event.{Event}
 use Rattle.gl_event.specs.declared.events.Event.TheVariants.{Acquire, Release, TryAcquire, Fork, Join}
 use Rattle.gl_event.specs.declared.events.Segment.{Segment}
-use Rattle.gl_segments.specs.Orders.{AreLawful}
 use Rattle.gl_segments.specs.Segments.{IsSegment, StandsIn, IsNext, IsFork, IsJoin, IsStep}
 use Rattle.gl_segments.specs.bodies.Tables.{Sources, steps_of_thread, sources, Has, LeadsTo, IsSound, ShowsSteps, cuts_of, AreSmall, joined_last, AreStepsOfThread}
 use Rattle.gl_segments.proofs.Cutting.{place_to_cut, cut_to_place, segment_is_length, segment_at_most, segment_take, lawful_length, some_at}
@@ -29,7 +30,7 @@ cuts_from : (lists : List (List Event)) (t : ℕ) (cs : List Event) → slice_ge
 cuts_from lists t cs at = mapped (filter closes) (slice_get lists t) cs (sym (slice_get-map (filter closes) lists t) ∙ at)
 
 -- the forks and joins of lawful lists can be counted
-pub cuts_small : (lists : List (List Event)) → AreLawful lists → AreSmall (cuts_of lists)
+pub cuts_small : (lists : List (List Event)) → AreLawful greatest lists → AreSmall (cuts_of lists)
 cuts_small lists lawful = record {
   few = omega (arith, length-map lists (filter closes), lawful.few);
   small = λ t cs at.
@@ -228,7 +229,7 @@ module _ (lists : List (List Event)) (steps : Sources) (long : length steps ≡ 
   shows_inside a b h = list_has a (step_from lists a b (back_at a b.thread b.index h))
 
   -- it is sound where the lists are lawful
-  pub steps_sound : AreLawful lists → IsSound steps
+  pub steps_sound : AreLawful greatest lists → IsSound steps
   steps_sound lawful = record {
     few = let f = lawful.few in omega arith;
     small = λ t.

@@ -5,7 +5,7 @@ ghost use Rattle.gl_segments.specs.Orders.{IsFaultOf};
 ghost use Rattle.gl_segments.specs.Segments.{IsConsistent};
 ghost use Rattle.gl_segments.specs.bodies.Tables.{IsSound, ShowsSteps};
 ghost use Rattle.gl_segments.specs.bodies.Rows.{AreClocksOf, IsThreadFault};
-ghost use Rattle.std.specs.Prelude.{◌≡◌, ℕ, ◌<◌, ◌≤◌, List, length, slice_get, Some, IfOk, OnOk, IfErr};
+ghost use Rattle.std.specs.Prelude.{◌≡◌, ◌<◌, List, length, IfOk, OnOk, IfErr};
 
 use crate::faults::OrderFault;
 use crate::halts::Halt;
@@ -33,9 +33,8 @@ impl Model for Order {
 
 impl Order {
     ghost use Rattle.gl_segments.specs.Clocks.{ahead, is_before, CountsBefore};
-    ghost use Rattle.gl_event.specs.Lawful.{lists_of};
     ghost use Rattle.gl_event.specs.Bounds.{greatest};
-    ghost use Rattle.gl_event.specs.Lawful.{IsLawful};
+    ghost use Rattle.gl_event.specs.Lawful.{lists_of, AreLawful};
 
     /// The order of the segments of these lists, one list a thread, by number.
     ///
@@ -48,9 +47,7 @@ impl Order {
     /// takes memory as there are forks and joins, as there are pairs of threads, and as there are
     /// places along threads from which more segments of another thread are before.
     pub fn of(alloc: Global, lists: &[Vec<Event>]) -> Result<Order, OrderFault>
-        requires few { length lists.now ≤ 1024 }
-        requires lawful { (thread : ℕ) (es : List Event)
-            → slice_get (lists_of lists.now) thread ≡ Some es → IsLawful greatest thread es }
+        requires lawful { AreLawful greatest (lists_of lists.now) }
         ensures ok { IfOk result (λ order. OrdersBy (lists_of lists.now) order) }
         ensures consistent { OnOk result (IsConsistent (lists_of lists.now)) }
         ensures fault { IfErr result (λ fault. IsFaultOf (lists_of lists.now) fault) }

@@ -26,13 +26,14 @@ impl Model for Steps {
 }
 
 impl Steps {
-    ghost use Rattle.gl_segments.specs.Orders.{AreLawful};
+    ghost use Rattle.gl_event.specs.Bounds.{greatest};
+    ghost use Rattle.gl_event.specs.Lawful.{AreLawful};
     ghost use Rattle.gl_segments.specs.bodies.Tables.{Has, IsSound, ShowsSteps, steps_of_thread, sources};
 
     /// The steps between the segments of these lists. It reads each event once, and sorts the forks;
     /// otherwise it takes time and memory as there are threads, forks and joins.
     pub fn of(alloc: Global, lists: &[Vec<Event>]) -> Result<Steps, AllocError>
-        requires { AreLawful (lists_of lists.now) }
+        requires lawful { AreLawful greatest (lists_of lists.now) }
         ensures shows { IfOk result (λ s. ShowsSteps (lists_of lists.now) s) }
         ensures sound { IfOk result (λ s. IsSound s) }
     {

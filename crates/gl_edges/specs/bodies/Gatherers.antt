@@ -1,5 +1,5 @@
 -- What is known while the edges of a thread's list are gathered.
-use Rattle.std.specs.Prelude.{ℕ, ◌<◌, List, Contains}
+use Rattle.std.specs.Prelude.{ℕ, ◌+◌, ◌<◌, List, ◌++◌, Contains}
 use Rattle.gl_event.specs.declared.events.LockMode.{LockMode}
 use Rattle.gl_event.specs.declared.held.HeldEntry.{HeldEntry}
 use Rattle.gl_edges.specs.Guards.{guards_of}
@@ -21,6 +21,12 @@ pub record Gathers (pairs : List (Edge × Sample)) (place : ℕ) (gatherer : Gat
   pub table : IsTableOf gatherer.batch pairs
   -- and acquires whose edges are there already
   pub seen : AreBefore gatherer.seen pairs place
+
+-- what the gatherer knew before this place, and these pairs besides, it knows before the next one
+abbrev pub HasGathered : ℕ → List (Edge × Sample) → Gatherer → Gatherer → Type 0
+HasGathered place more before after =
+    (pairs : List (Edge × Sample)) → Gathers pairs place before
+    → Gathers (pairs ++ more) (place + 1) after
 
 -- the edge and the sample that a tracked thread makes for a held lock, where it acquires one more
 abbrev pub pair_for : Tracker → ℕ → LockMode → ℕ → HeldEntry → Edge × Sample

@@ -7,7 +7,7 @@ use Rattle.gl_edges.specs.declared.edge.Edge.{Edge}
 use Rattle.gl_edges.specs.declared.guards.Guard.{Guard}
 use Rattle.gl_edges.specs.declared.seen.Node.{Node}
 use Rattle.gl_edges.specs.declared.seen.Opened.{Opened}
-use Rattle.gl_edges.specs.declared.seen.Place.{Place}
+use Rattle.gl_edges.specs.declared.seen.Branch.{Branch}
 use Rattle.gl_edges.specs.declared.tracker.Tracker.{Tracker}
 
 -- what an edge needs of a held lock
@@ -38,17 +38,17 @@ edges_inside thread held wanted = map (edge_inside thread held wanted) held
 
 -- ---- the tree of held locks
 
--- a node at this place
-abbrev pub with_node : Place → Bool → Node
-with_node place is_noted = record { place = place; is_noted = is_noted }
+-- a node that ends this branch
+abbrev pub with_node : Branch → Bool → Node
+with_node branch is_noted = record { branch = branch; is_noted = is_noted }
 
 -- the locks that lead to the node's parent, where these lead to the root and to the nodes before
 abbrev pub around : List (List Opened) → Node → List Opened
-around ways node = slice_index_or ways node.place.parent []
+around ways node = slice_index_or ways node.branch.parent []
 
 -- the locks that lead to the node
 abbrev pub way_to : List (List Opened) → Node → List Opened
-way_to ways node = around ways node ++ node.place.opened ∷ []
+way_to ways node = around ways node ++ node.branch.opened ∷ []
 
 -- the locks that lead to each of these nodes, after those that lead to the nodes before
 unfoldable pub ways_after : List (List Opened) → List Node → List (List Opened)
@@ -63,19 +63,26 @@ ways nodes = ways_after ([] ∷ []) nodes
 abbrev pub LeadsTo : List Node → ℕ → List Opened → Type 0
 LeadsTo nodes number held = slice_get (ways nodes) number ≡ Some held
 
--- the node of this number stands at this place, and was noted or not
-pub record IsNode (nodes : List Node) (place : Place) (is_noted : Bool) (number : ℕ) : Type 0 where
+-- the node of this number ends this branch, and was noted or not
+pub record IsNode (nodes : List Node) (branch : Branch) (is_noted : Bool)
+    (number : ℕ) : Type 0 where
   pub at : ℕ
   pub counts : number ≡ at + 1
-  pub stands : slice_get nodes at ≡ Some (with_node place is_noted)
-  pub above : place.parent < number
+  pub stands : slice_get nodes at ≡ Some (with_node branch is_noted)
+  pub above : branch.parent < number
+
+-- where locks lead to the branch's parent, they lead with that of the branch to the node of this number
+abbrev pub IsEndOf : Branch → List Node → List Node → ℕ → Type 0
+IsEndOf branch before after number =
+    (held : List Opened) → LeadsTo before branch.parent held
+    → LeadsTo after number (held ++ branch.opened ∷ [])
 
 -- ---- the acquires that were noted
 
 -- the edges of a node's acquire, if that was noted
 abbrev pub edges_at_node : ℕ → List (List Opened) → Node → List Edge
 edges_at_node thread ways node =
-    if node.is_noted then edges_inside thread (around ways node) node.place.opened else []
+    if node.is_noted then edges_inside thread (around ways node) node.branch.opened else []
 
 -- the edges of these nodes' acquires, where these locks lead to the nodes before
 unfoldable pub noted_after : ℕ → List (List Opened) → List Node → List Edge
@@ -86,6 +93,10 @@ noted_after thread ways (node ∷ nodes) =
 -- the edges of the acquires that were noted
 abbrev pub noted : ℕ → List Node → List Edge
 noted thread nodes = noted_after thread ([] ∷ []) nodes
+
+-- the acquires that were noted have the same edges as before
+abbrev pub HasNotedAlike : List Node → List Node → Type 0
+HasNotedAlike before after = (thread : ℕ) → noted thread after ≡ noted thread before
 
 -- the edges of the acquire of a lock that the tracked thread doesn't hold
 abbrev pub edges_now : Tracker → ℕ → LockMode → List Edge

@@ -7,12 +7,12 @@ use Rattle.gl_edges.specs.declared.edge.Sample.{Sample}
 use Rattle.gl_edges.specs.declared.parallel.Share.{Share}
 
 -- the lists of a share
-abbrev pub lists_of : List (List Event) → Share → List (List Event)
-lists_of lists share = take (share.to - share.from) (drop share.from lists)
+abbrev pub lists_of_share : List (List Event) → Share → List (List Event)
+lists_of_share lists share = take (share.to - share.from) (drop share.from lists)
 
 -- the edges of a share's lists: each once, ascending, with its least sample
 abbrev pub edges_of_share : List (List Event) → Share → List (Edge × Sample)
-edges_of_share lists share = once (edges_made_from share.from (lists_of lists share))
+edges_of_share lists share = once (edges_made_from share.from (lists_of_share lists share))
 
 -- the shares follow one another, from one position to another
 abbrev pub FollowOn : ℕ → List Share → ℕ → Type 0

@@ -1,6 +1,7 @@
 use Rattle.std.proofs.Common.{◌≡◌, map, Ok, ap, ◌∙◌, length}
 use Rattle.std.specs.Prelude.{IfOk}
 use Rattle.rayon.proofs.ToStd.{slice-AllZip}
+use Rattle.gl_event.specs.Lawful.{lists_of}
 use Rattle.gl_edges.specs.bodies.Sharing.{edges_of_share}
 use Rattle.gl_edges.proofs.Apart.{if_ok, pieces_of, share_within}
 use Rattle.gl_edges.proofs.parallel.edges_of_each.Goals as goal
@@ -11,11 +12,11 @@ collect-requires-clause-ready g c κs within =
     rw (c.with_min_len.ensures.base, slice, c.map.ensures.f)
     (λ k d lt x is.
     let (forth, end) = share_within 0 c.args.shares.now (length c.args.lists.now) c.requires.dealt k d lt in
-    (rw is (forth, end, c.requires.few, c.requires.lawful), λ y p. tt))
+    (rw is (forth, end, c.requires.lawful), λ y p. tt))
 
 pub returns : goal.returns
 returns g c =
-    let lists = map (λ v. v.items) c.args.lists.now in
+    let lists = lists_of c.args.lists.now in
     let slice = ap (λ it. it.slice.now) c.map.ensures.base ∙ c.par_iter.ensures in
     let h = c.in_ok-found.ensures in
     let chain = rw (c.with_min_len.ensures.base, c.map.ensures.f) at h.1 in

@@ -28,7 +28,7 @@ loop-event-preserved c =
       known = λ pairs is.
           subst (λ n. Gathers (pairs ++ edges_below thread list (i + 1)) (n + 1) c.take.new.self) long
           (subst (λ xs. Gathers xs (length (take i list) + 1) c.take.new.self) (pairs_event thread list i event tracker c.loop-event-test.true c.event-item.is before pairs)
-          (c.in_ok-take.ensures.gathers thread (take i list) (pairs ++ edges_below thread list i) before
+          (c.in_ok-take.ensures.gathers thread (take i list) before (pairs ++ edges_below thread list i)
           (subst (λ n. Gathers (pairs ++ edges_below thread list i) n c.loop-event.self) (sym long) (c.loop-event.invariant.known pairs is))));
     }
 

@@ -16,12 +16,12 @@ use Rattle.gl_segments.proofs.steps.Steps.of.Goals as goal
 pub steps_of_thread-requires-clause-small : goal.steps_of_thread-requires-clause-small
 steps_of_thread-requires-clause-small c =
     let is = ap lists_of c.deref-in-loop-thread.ensures.value ∙ c.in_ok-cuts.ensures in
-    subst AreSmall (sym is) (cuts_small _ c.requires)
+    subst AreSmall (sym is) (cuts_small _ c.requires.lawful)
 
 pub of-requires : goal.of-requires
 of-requires c =
     let is = ap lists_of c.deref.ensures.value ∙ c.in_ok-cuts.ensures in
-    subst AreSmall (sym is) (cuts_small _ c.requires)
+    subst AreSmall (sym is) (cuts_small _ c.requires.lawful)
 
 pub steps_of_thread-requires-clause-forked : goal.steps_of_thread-requires-clause-forked
 steps_of_thread-requires-clause-forked c = subst (λ xs. AreAllForks (lists_of xs) c.in_ok-forked.forked) (c.deref.ensures.value ∙ sym c.deref-in-loop-thread.ensures.value) c.in_ok-forked.ensures
@@ -63,4 +63,4 @@ returns-clause-sound c =
     let lists = lists_of c.args.lists.now in
     let all : c.loop-thread.thread ≡ length c.in_ok-cuts.cuts.items = search rules in
     let r = all_threads lists c.in_ok-cuts.cuts.items c.loop-thread.by_thread.items c.loop-thread.thread c.in_ok-cuts.ensures c.loop-thread.invariant.size all c.loop-thread.invariant.each in
-    steps_sound lists c.loop-thread.by_thread.items r.0 r.1 c.requires
+    steps_sound lists c.loop-thread.by_thread.items r.0 r.1 c.requires.lawful

@@ -1,4 +1,5 @@
 use Rattle.std.proofs.Common.{◌+◌, ap, sym, ◌∙◌, arith}
+use Rattle.std.proofs.lemmas.List.{length-map}
 use Rattle.std.proofs.lemmas.Result.{IfOk-weaker}
 use Rattle.gl_edges.specs.Edges.{edges_made_from, once}
 use Rattle.gl_edges.proofs.Apart.{ends_at, list_of_share, map_share}
@@ -8,11 +9,11 @@ pub edges_from-requires : goal.edges_from-requires
 edges_from-requires c =
     let share = c.args.share.now in
     let lists = c.captures.lists.now in
-    let (forth, within, few, lawful) = c.requires in
+    let (forth, within, lawful) = c.requires in
     let ends = ends_at lists share.from share.to forth within in
     record {
-      few = omega (arith, ends, within, few);
-      lawful = λ index es is. lawful (share.from + index) es (list_of_share (λ v. v.items) lists share index es is);
+      few = omega (arith, ends, within, length-map lists (λ v. v.items), lawful.few);
+      lawful = λ index es is. lawful.each (share.from + index) es (list_of_share (λ v. v.items) lists share index es is);
     }
 
 pub returns : goal.returns
