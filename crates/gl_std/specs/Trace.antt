@@ -3,7 +3,7 @@ use Rattle.std.specs.Prelude.{◌≡◌, ◌≢◌, ℕ, ◌+◌, ◌<◌, ◌�
 use Rattle.std.specs.Option.{option_map_or}
 use Rattle.std.specs.Str.{bytes_eq}
 use Rattle.gl_event.specs.Bounds.{Bounds}
-use Rattle.gl_event.specs.Lawful.{lock_refusal, IsLawful}
+use Rattle.gl_event.specs.Lawful.{lock_refusal, EachIsLawful}
 use Rattle.gl_event.specs.declared.events.Event.{Event}
 use Rattle.gl_event.specs.declared.events.Event.TheVariants.{Acquire, Release, TryAcquire, Fork, Join}
 use Rattle.gl_event.specs.declared.events.Refusal.{Refusal}
@@ -174,9 +174,7 @@ pub record IsTraceOver (limits : Bounds) (trace : Trace) : Type 0 where
   -- no thread has more events than the limits allow
   pub events_fit : (thread : ℕ) (es : List Event) → slice_get trace.lists thread ≡ Some es
       → length es ≤ limits.events
-  -- each thread's list is lawful
-  pub lawful : (thread : ℕ) (es : List Event) → slice_get trace.lists thread ≡ Some es
-      → IsLawful limits thread es
+  pub lawful : EachIsLawful limits trace.lists
   -- each number in a list has a name
   pub named : (thread : ℕ) (es : List Event) → slice_get trace.lists thread ≡ Some es
       → All (IsNamed trace.names) es
