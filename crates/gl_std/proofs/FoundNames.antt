@@ -1,7 +1,6 @@
 -- What is found of a line's names before they are added tells the trace after the line.
 use Rattle.std.proofs.Common.{◌≡◌, ℕ, ◌+◌, Bool, true, false, cond, nat_lt, List, [], ◌∷◌, ◌++◌, length, position, is_none, unwrap_or, Option, Some, None, refl, sym, ap, ◌∙◌, arith}
 use Rattle.std.specs.Prelude.{nat_le}
-use Rattle.std.specs.List.{position_or_len}
 use Rattle.std.specs.Option.{option_map_or}
 use Rattle.std.specs.Str.{bytes_eq}
 use Rattle.std.proofs.lemmas.List.{length_push}
@@ -11,37 +10,19 @@ use Rattle.gl_event.specs.declared.events.Event.{Event}
 use Rattle.gl_event.specs.declared.events.Refusal.{Refusal}
 use Rattle.gl_event.specs.declared.events.Refusal.TheVariants.{PlaceFull, NoSuchThread, OnItself, NotHeld, HeldFull as NoRoom, DepthFull as TooDeep, Upgrade as IsUpgrade}
 use Rattle.gl_std.specs.Line.{Operation, is_on_thread}
-use Rattle.gl_std.specs.Names.{NameLists}
-use Rattle.gl_std.specs.Trace.{mention, number_of, names_after, event_of, event_told, events_of, with_event, with_list, lists_after, with_call, limit_reached, after_event, after_call}
+use Rattle.gl_std.specs.Names.{NameLists, number_of, with_new}
+use Rattle.gl_std.specs.Trace.{names_after, event_of, event_told, events_of, with_event, with_list, lists_after, with_call, limit_reached, after_event, after_call}
 use Rattle.gl_std.specs.bodies.Finding.{found_in, with_name, if_new, threads_after, locks_after, with_lists, operand_number, event_found, limit_found, limit_fault, ruling_of, with_names, after_ruling, after_found}
 use Rattle.gl_std.specs.declared.faults.StdKind.{StdKind}
 use Rattle.gl_std.specs.declared.faults.StdKind.TheVariants.{TooManyThreads, TooManyEvents, TooManyNames}
 use Rattle.gl_std.specs.declared.trace.Trace.{Trace}
-use Rattle.gl_std.proofs.NameBytes.{any_where_placed}
 use Rattle.gl_std.proofs.Places.{place_after, position-push, itself}
 
 -- ---- one name
 
--- a name that has no number is mentioned for the first time
-pub with_name-mention : (names : List (List ℕ)) (name : List ℕ) → with_name names (position (bytes_eq name) names) name ≡ mention names name
-with_name-mention names name =
-    by (nat_lt (position_or_len (bytes_eq name) names) (length names)) ∙ ap (λ b. cond b names (names ++ name ∷ [])) (sym (any_where_placed (bytes_eq name) names))
-  where
-    by : (b : Bool) → option_map_or (λ _. names) (cond b (Some (position_or_len (bytes_eq name) names)) None) (names ++ name ∷ []) ≡ cond b names (names ++ name ∷ [])
-    by true = refl
-    by false = refl
-
 pub length-with_name : (names : List (List ℕ)) (number : Option ℕ) (name : List ℕ) → length (with_name names number name) ≡ length names + cond (is_none number) 1 0
 length-with_name names None name = length_push names name
 length-with_name names (Some i) name = omega arith
-
--- the place that a value has is where it stands
-place_is : {X : Type 0} (p : X → Bool) (xs : List X) (i : ℕ) → position p xs ≡ Some i → position_or_len p xs ≡ i
-place_is p xs i h = by (nat_lt (position_or_len p xs) (length xs)) h
-  where
-    by : (b : Bool) → cond b (Some (position_or_len p xs)) None ≡ Some i → position_or_len p xs ≡ i
-    by true e = cc
-    by false e = absurd cc
 
 -- a name has a place once it is mentioned: the one that it had, or the next one
 placed : (names : List (List ℕ)) (name : List ℕ) → position (bytes_eq name) (with_name names (position (bytes_eq name) names) name) ≡ Some (unwrap_or (position (bytes_eq name) names) (length names))
@@ -51,9 +32,8 @@ placed names name = by (position (bytes_eq name) names) refl
     by (Some i) e = e
     by None e = position-push (bytes_eq name) names name ∙ ap (λ r. place_after r (bytes_eq name name) (length names)) e ∙ ap (λ b. place_after None b (length names)) (itself name)
 
-number-found : (names : List (List ℕ)) (name : List ℕ) → number_of (mention names name) name ≡ unwrap_or (position (bytes_eq name) names) (length names)
-number-found names name =
-    ap (λ ns. number_of ns name) (sym (with_name-mention names name)) ∙ place_is (bytes_eq name) (with_name names (position (bytes_eq name) names) name) (unwrap_or (position (bytes_eq name) names) (length names)) (placed names name)
+number-found : (names : List (List ℕ)) (name : List ℕ) → number_of (with_new names name) name ≡ number_of names name
+number-found names name = ap (λ r. unwrap_or r (length (with_new names name))) (placed names name)
 
 -- ---- the names of a line, where its operand is a thread, and where it is a lock
 
@@ -90,35 +70,33 @@ with_found told operation thread operand location =
 
 -- ---- the trace after a line
 
-threads-found : (on : Bool) (names : NameLists) (thread operand : List ℕ) → cond on (mention (mention names.threads thread) operand) (mention names.threads thread) ≡ threads_of on names thread operand
-threads-found true names thread operand = sym (with_name-mention (acting names thread) operand ∙ ap (λ ns. mention ns operand) (with_name-mention names.threads thread))
-threads-found false names thread operand = sym (with_name-mention names.threads thread)
+threads-found : (on : Bool) (names : NameLists) (thread operand : List ℕ) → cond on (with_new (with_new names.threads thread) operand) (with_new names.threads thread) ≡ threads_of on names thread operand
+threads-found true names thread operand = refl
+threads-found false names thread operand = refl
 
-locks-found : (on : Bool) (names : NameLists) (thread operand : List ℕ) → cond on names.locks (mention names.locks operand) ≡ locks_of on names thread operand
+locks-found : (on : Bool) (names : NameLists) (thread operand : List ℕ) → cond on names.locks (with_new names.locks operand) ≡ locks_of on names thread operand
 locks-found true names thread operand = refl
-locks-found false names thread operand = sym (with_name-mention names.locks operand)
+locks-found false names thread operand = refl
 
 pub names-found : (names : NameLists) (operation : Operation) (thread operand location : List ℕ) → names_after names operation thread operand location ≡ with_names names operation (found_in names operation thread operand location) thread operand location
 names-found names operation thread operand location =
     let on = is_on_thread operation in
     let threads = threads-found on names thread operand in
     let locks = locks-found on names thread operand in
-    let locs = sym (with_name-mention names.locs location) in
-    (λ i. record { threads = threads i; locks = locks i; locs = locs i })
+    (λ i. record { threads = threads i; locks = locks i; locs = with_new names.locs location })
 
-operand-number : (on : Bool) (names : NameLists) (thread operand : List ℕ) → number_of (cond on (cond on (mention (mention names.threads thread) operand) (mention names.threads thread)) (cond on names.locks (mention names.locks operand))) operand ≡ unwrap_or (place_of on names thread operand) (cond on (length names.threads + cond (is_none (position (bytes_eq thread) names.threads)) 1 0) (length names.locks))
+operand-number : (on : Bool) (names : NameLists) (thread operand : List ℕ) → number_of (cond on (cond on (with_new (with_new names.threads thread) operand) (with_new names.threads thread)) (cond on names.locks (with_new names.locks operand))) operand ≡ unwrap_or (place_of on names thread operand) (cond on (length names.threads + cond (is_none (position (bytes_eq thread) names.threads)) 1 0) (length names.locks))
 operand-number true names thread operand =
-    ap (λ ns. number_of (mention ns operand) operand) (sym (with_name-mention names.threads thread)) ∙ number-found (acting names thread) operand
-    ∙ ap (unwrap_or (place_of true names thread operand)) (length-with_name names.threads (position (bytes_eq thread) names.threads) thread)
+    number-found (acting names thread) operand ∙ ap (unwrap_or (place_of true names thread operand)) (length-with_name names.threads (position (bytes_eq thread) names.threads) thread)
 operand-number false names thread operand = number-found names.locks operand
 
 pub event-found : (names : NameLists) (operation : Operation) (thread operand location : List ℕ) → event_told names operation thread operand location ≡ event_found names operation (found_in names operation thread operand location)
 event-found names operation thread operand location =
-    ap (λ n. event_of operation n (number_of (mention names.locs location) location)) (operand-number (is_on_thread operation) names thread operand)
+    ap (λ n. event_of operation n (number_of (with_new names.locs location) location)) (operand-number (is_on_thread operation) names thread operand)
     ∙ ap (event_of operation (operand_number names operation (found_in names operation thread operand location))) (number-found names.locs location)
 
-lists-found : (on : Bool) (names : NameLists) (lists : List (List Event)) (thread operand : List ℕ) (event : Event) → cond on (with_list (with_event lists (position (bytes_eq thread) names.threads) event) (position (bytes_eq operand) (mention names.threads thread))) (with_event lists (position (bytes_eq thread) names.threads) event) ≡ cond on (with_list (with_event lists (position (bytes_eq thread) names.threads) event) (place_of on names thread operand)) (with_event lists (position (bytes_eq thread) names.threads) event)
-lists-found true names lists thread operand event = ap (λ ns. with_list (with_event lists (position (bytes_eq thread) names.threads) event) (position (bytes_eq operand) ns)) (sym (with_name-mention names.threads thread))
+lists-found : (on : Bool) (names : NameLists) (lists : List (List Event)) (thread operand : List ℕ) (event : Event) → cond on (with_list (with_event lists (position (bytes_eq thread) names.threads) event) (position (bytes_eq operand) (with_new names.threads thread))) (with_event lists (position (bytes_eq thread) names.threads) event) ≡ cond on (with_list (with_event lists (position (bytes_eq thread) names.threads) event) (place_of on names thread operand)) (with_event lists (position (bytes_eq thread) names.threads) event)
+lists-found true names lists thread operand event = refl
 lists-found false names lists thread operand event = refl
 
 pub trace-found : (told : Trace) (operation : Operation) (thread operand location : List ℕ) → with_call told operation thread operand location ≡ with_found told operation thread operand location
@@ -143,7 +121,7 @@ limit-found limits names events operation thread operand location =
     let after = names_after names operation thread operand location in
     let threads : length after.threads ≡ threads_after names operation found = ap length (threads-found on names thread operand) ∙ length-threads_of on names thread operand in
     let locks : length after.locks ≡ locks_after names operation found = ap length (locks-found on names thread operand) ∙ length-locks_of on names thread operand in
-    let locs : length after.locs ≡ length names.locs + if_new found.loc = ap length (sym (with_name-mention names.locs location)) ∙ length-with_name names.locs found.loc location in
+    let locs : length after.locs ≡ length names.locs + if_new found.loc = length-with_name names.locs found.loc location in
     ap (λ n. limit_by limits events n (length after.locks) (length after.locs)) threads
     ∙ ap (λ n. limit_by limits events (threads_after names operation found) n (length after.locs)) locks
     ∙ ap (limit_by limits events (threads_after names operation found) (locks_after names operation found)) locs

@@ -20,11 +20,11 @@ use Rattle.gl_event.specs.declared.events.Refusal.TheVariants.{NotHeld, HeldFull
 use Rattle.gl_event.specs.declared.held.TheConstants.{MAX_HELD, MAX_DEPTH}
 use Rattle.gl_event.proofs.Depths.{slice_get_before, slice_get_last}
 use Rattle.gl_std.specs.Laws.{IsFront, Grows, KeptLine, IsNumbered, threads_in, locks_in, is_stray, is_other, is_call, kept_in, kept_from, if_told, TracesTellLines}
-use Rattle.gl_std.specs.Names.{NameLists}
+use Rattle.gl_std.specs.Names.{NameLists, with_new}
 use Rattle.gl_std.specs.Line.{Operation, Shape, shape_of, is_on_thread}
 use Rattle.gl_std.specs.Line.Shape.{Blank, Bad, Other, Call}
 use Rattle.gl_std.specs.Lines.{lines}
-use Rattle.gl_std.specs.Trace.{mention, operands, with_event, events_of, after_shape, after_line, and_then, read_from, nothing, trace_of, IsTraceOver}
+use Rattle.gl_std.specs.Trace.{operands, with_event, events_of, after_shape, after_line, and_then, read_from, nothing, trace_of, IsTraceOver}
 use Rattle.gl_std.specs.bodies.Finding.{found_in, with_name, operand_number, event_found, limit_fault, ruling_of, after_ruling}
 use Rattle.gl_std.specs.declared.faults.StdKind.{StdKind}
 use Rattle.gl_std.specs.declared.faults.ReadFault.{ReadFault}
@@ -33,15 +33,15 @@ use Rattle.gl_std.specs.declared.ruling.Ruling.{Ruling}
 use Rattle.gl_std.specs.declared.ruling.Ruling.TheVariants.{Kept, Stray, Fault}
 use Rattle.gl_std.specs.declared.trace.Trace.{Trace}
 use Rattle.gl_std.proofs.Growth.{Grows-itself, Grows-then, call_grows}
-use Rattle.gl_std.proofs.FoundNames.{with_name-mention, length-with_name, acting, place_of, threads_of, locks_of, with_found, event-found, call-found}
+use Rattle.gl_std.proofs.FoundNames.{length-with_name, acting, place_of, threads_of, locks_of, with_found, event-found, call-found}
 use Rattle.gl_std.proofs.WithinLimits.{IsTrace, lists_of, length-with_event, same_trace, no_trace, kept_ruling, after_line_over, nothing_over}
 use Rattle.gl_std.proofs.Places.{events_named, own, events_named-after, events_named-listed}
 
 -- the trace after more lines, which say this, and of which these are kept
 record Tells (old : Trace) (shapes : List Shape) (kept : List KeptLine) (new : Trace) : Type 0 where
-  threads : new.names.threads ≡ fold mention old.names.threads (flat_map threads_in kept)
-  locks : new.names.locks ≡ fold mention old.names.locks (flat_map locks_in kept)
-  locs : new.names.locs ≡ fold mention old.names.locs (map (λ line. line.loc) kept)
+  threads : new.names.threads ≡ fold with_new old.names.threads (flat_map threads_in kept)
+  locks : new.names.locks ≡ fold with_new old.names.locks (flat_map locks_in kept)
+  locs : new.names.locs ≡ fold with_new old.names.locs (map (λ line. line.loc) kept)
   grows : Grows old new
   numbered : All (IsNumbered new.names) kept
   lists : (name : List ℕ) → events_named new.names.threads new.lists name ≡ events_named old.names.threads old.lists name ++ map (λ line. line.event) (filter (λ line. bytes_eq name line.thread) kept)
@@ -65,13 +65,13 @@ Tells-none told shapes skipped stray a b =
       stray = omega (arith, b);
     }
 
-fold_two : (f : KeptLine → List ℕ) (ms ns : List KeptLine) (seen mid new : List (List ℕ)) → mid ≡ fold mention seen (map f ms) → new ≡ fold mention mid (map f ns) → new ≡ fold mention seen (map f (ms ++ ns))
-fold_two f [] ns seen mid new a b = b ∙ ap (λ s. fold mention s (map f ns)) a
-fold_two f (m ∷ ms) ns seen mid new a b = fold_two f ms ns (mention seen (f m)) mid new a b
+fold_two : (f : KeptLine → List ℕ) (ms ns : List KeptLine) (seen mid new : List (List ℕ)) → mid ≡ fold with_new seen (map f ms) → new ≡ fold with_new mid (map f ns) → new ≡ fold with_new seen (map f (ms ++ ns))
+fold_two f [] ns seen mid new a b = b ∙ ap (λ s. fold with_new s (map f ns)) a
+fold_two f (m ∷ ms) ns seen mid new a b = fold_two f ms ns (with_new seen (f m)) mid new a b
 
-fold_all : (f : KeptLine → List (List ℕ)) (ms ns : List KeptLine) (seen mid new : List (List ℕ)) → mid ≡ fold mention seen (flat_map f ms) → new ≡ fold mention mid (flat_map f ns) → new ≡ fold mention seen (flat_map f (ms ++ ns))
+fold_all : (f : KeptLine → List (List ℕ)) (ms ns : List KeptLine) (seen mid new : List (List ℕ)) → mid ≡ fold with_new seen (flat_map f ms) → new ≡ fold with_new mid (flat_map f ns) → new ≡ fold with_new seen (flat_map f (ms ++ ns))
 fold_all f ms ns seen mid new a b =
-    b ∙ ap (λ s. fold mention s (flat_map f ns)) a ∙ sym (fold-append mention seen (flat_map f ms) (flat_map f ns)) ∙ ap (fold mention seen) (sym (flat_map-append f ms ns))
+    b ∙ ap (λ s. fold with_new s (flat_map f ns)) a ∙ sym (fold-append with_new seen (flat_map f ms) (flat_map f ns)) ∙ ap (fold with_new seen) (sym (flat_map-append f ms ns))
 
 lists_two : (p : KeptLine → Bool) (ms ns : List KeptLine) → map (λ line. line.event) (filter p (ms ++ ns)) ≡ map (λ line. line.event) (filter p ms) ++ map (λ line. line.event) (filter p ns)
 lists_two p ms ns = ap (map (λ line. line.event)) (filter-append p ms ns) ∙ map-append (λ line. line.event) (filter p ms) (filter p ns)
@@ -167,13 +167,13 @@ own_event : (b : Bool) (line : KeptLine) → own b line.event ≡ map (λ l. l.e
 own_event true line = refl
 own_event false line = refl
 
-threads_of-mention : (on : Bool) (names : NameLists) (thread operand : List ℕ) → threads_of on names thread operand ≡ fold mention names.threads ((thread ∷ cond on (operand ∷ []) []) ++ [])
-threads_of-mention true names thread operand = with_name-mention (acting names thread) operand ∙ ap (λ ns. mention ns operand) (with_name-mention names.threads thread)
-threads_of-mention false names thread operand = with_name-mention names.threads thread
+threads_of-mentioned : (on : Bool) (names : NameLists) (thread operand : List ℕ) → threads_of on names thread operand ≡ fold with_new names.threads ((thread ∷ cond on (operand ∷ []) []) ++ [])
+threads_of-mentioned true names thread operand = refl
+threads_of-mentioned false names thread operand = refl
 
-locks_of-mention : (on : Bool) (names : NameLists) (thread operand : List ℕ) → locks_of on names thread operand ≡ fold mention names.locks (cond on [] (operand ∷ []) ++ [])
-locks_of-mention true names thread operand = refl
-locks_of-mention false names thread operand = with_name-mention names.locks operand
+locks_of-mentioned : (on : Bool) (names : NameLists) (thread operand : List ℕ) → locks_of on names thread operand ≡ fold with_new names.locks (cond on [] (operand ∷ []) ++ [])
+locks_of-mentioned true names thread operand = refl
+locks_of-mentioned false names thread operand = refl
 
 -- the event goes to the end of its own thread's events, and to no other's
 pub events_named-lists_of : (on : Bool) (names : NameLists) (lists : List (List Event)) (thread operand name : List ℕ) (e : Event) → length lists ≡ length names.threads → events_named (threads_of on names thread operand) (lists_of on lists (position (bytes_eq thread) names.threads) (place_of on names thread operand) e) name ≡ events_named names.threads lists name ++ own (bytes_eq name thread) e
@@ -217,9 +217,9 @@ call_told told operation thread operand location each =
       event_is = refl;
     } in
     record {
-      threads = threads_of-mention on told.names thread operand;
-      locks = locks_of-mention on told.names thread operand;
-      locs = with_name-mention told.names.locs location;
+      threads = threads_of-mentioned on told.names thread operand;
+      locks = locks_of-mentioned on told.names thread operand;
+      locs = refl;
       grows = call_grows told operation thread operand location;
       numbered = one_line (IsNumbered new.names) line numbered;
       lists = λ name. events_named-lists_of on told.names told.lists thread operand name event each ∙ ap (λ es. events_named told.names.threads told.lists name ++ es) (own_event (bytes_eq name thread) line);

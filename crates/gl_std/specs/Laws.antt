@@ -16,8 +16,8 @@ use Rattle.gl_event.specs.Bounds.{Bounds}
 use Rattle.gl_event.specs.declared.events.Event.{Event}
 use Rattle.gl_event.specs.declared.events.Event.TheVariants.{Acquire, Release, TryAcquire, Fork, Join}
 use Rattle.gl_std.specs.Lines.{LF, lines}
-use Rattle.gl_std.specs.Names.{NameLists}
-use Rattle.gl_std.specs.Trace.{mention, names_after, operands, events_of, event_of, event_told, after_line, and_then, read_from, nothing, trace_of, IsTraceOver}
+use Rattle.gl_std.specs.Names.{NameLists, with_new}
+use Rattle.gl_std.specs.Trace.{names_after, operands, events_of, event_of, event_told, after_line, and_then, read_from, nothing, trace_of, IsTraceOver}
 use Rattle.gl_std.specs.declared.trace.Trace.{Trace}
 
 -- a text's trace obeys the limits: its lists are lawful, and whatever they speak of has one name
@@ -132,7 +132,7 @@ kept_from limits number told (line ∷ rest) =
 
 -- each of these names once, in order of first mention
 abbrev pub first_mentions : List (List ℕ) → List (List ℕ)
-first_mentions names = fold mention [] names
+first_mentions names = fold with_new [] names
 
 -- the trace tells these lines, which say this, and of which these are kept: names have numbers by first mention, each event
 -- has the numbers of its line's names, and each thread's events are those of its lines, in order; the lines with other

@@ -1,10 +1,9 @@
 -- What a text says, line by line and as a whole.
 use Rattle.std.specs.Prelude.{◌≡◌, ◌≢◌, ℕ, ◌+◌, ◌<◌, ◌≤◌, List, [], ◌∷◌, ◌++◌, Option, Some, None, Result, Ok, Err, length, position, slice_get, slice_set, slice_index_or, nat_le, nat_lt, if◌then◌else◌, All, AllPairs}
-use Rattle.std.specs.List.{list_any, position_or_len}
 use Rattle.std.specs.Option.{option_map_or}
 use Rattle.std.specs.Str.{bytes_eq}
 use Rattle.gl_event.specs.Bounds.{Bounds}
-use Rattle.gl_event.specs.Lawful.{lock_refusal, IsLawful}
+use Rattle.gl_event.specs.Lawful.{lock_refusal, EachIsLawful}
 use Rattle.gl_event.specs.declared.events.Event.{Event}
 use Rattle.gl_event.specs.declared.events.Event.TheVariants.{Acquire, Release, TryAcquire, Fork, Join}
 use Rattle.gl_event.specs.declared.events.Refusal.{Refusal}
@@ -13,30 +12,22 @@ use Rattle.gl_std.specs.Line.{Operation, Shape, shape_of, is_on_thread}
 use Rattle.gl_std.specs.Line.Operation.{Acquire as AcquireOf, Release as ReleaseOf, TryAcquire as TryAcquireOf, Fork as ForkOf, Join as JoinOf}
 use Rattle.gl_std.specs.Line.Shape.{Blank, Bad, Other, Call}
 use Rattle.gl_std.specs.Lines.{lines}
-use Rattle.gl_std.specs.Names.{NameLists}
+use Rattle.gl_std.specs.Names.{NameLists, number_of, with_new}
 use Rattle.gl_std.specs.declared.faults.StdKind.{StdKind}
 use Rattle.gl_std.specs.declared.faults.StdKind.TheVariants.{HeldFull, DepthFull, Upgrade, TooManyThreads, TooManyEvents, TooManyNames}
 use Rattle.gl_std.specs.declared.faults.ReadFault.{ReadFault}
 use Rattle.gl_std.specs.declared.faults.ReadFault.TheVariants.{Line}
 use Rattle.gl_std.specs.declared.trace.Trace.{Trace}
 
--- the names, with this one at the end if it isn't among them
-abbrev pub mention : List (List ℕ) → List ℕ → List (List ℕ)
-mention names name = if list_any (bytes_eq name) names then names else names ++ name ∷ []
-
--- the number of a name is its place among the names
-abbrev pub number_of : List (List ℕ) → List ℕ → ℕ
-number_of names name = position_or_len (bytes_eq name) names
-
 -- the names after a line has mentioned its own: the acting thread first, then the thread or lock that it is on, then the
 -- location
 abbrev pub names_after : NameLists → Operation → List ℕ → List ℕ → List ℕ → NameLists
 names_after names operation thread operand location =
-    let threads = mention names.threads thread in
+    let threads = with_new names.threads thread in
     record {
-      threads = if is_on_thread operation then mention threads operand else threads;
-      locks = if is_on_thread operation then names.locks else mention names.locks operand;
-      locs = mention names.locs location;
+      threads = if is_on_thread operation then with_new threads operand else threads;
+      locks = if is_on_thread operation then names.locks else with_new names.locks operand;
+      locs = with_new names.locs location;
     }
 
 -- the names of threads or of locks, whichever the operation is on
@@ -79,7 +70,7 @@ abbrev pub lists_after : NameLists → List (List Event) → Operation → List 
 lists_after names lists operation thread operand event =
     let told = with_event lists (position (bytes_eq thread) names.threads) event in
     if is_on_thread operation
-    then with_list told (position (bytes_eq operand) (mention names.threads thread)) else told
+    then with_list told (position (bytes_eq operand) (with_new names.threads thread)) else told
 
 -- the trace with the event of a line
 abbrev pub with_call : Trace → Operation → List ℕ → List ℕ → List ℕ → Trace
@@ -183,9 +174,7 @@ pub record IsTraceOver (limits : Bounds) (trace : Trace) : Type 0 where
   -- no thread has more events than the limits allow
   pub events_fit : (thread : ℕ) (es : List Event) → slice_get trace.lists thread ≡ Some es
       → length es ≤ limits.events
-  -- each thread's list is lawful
-  pub lawful : (thread : ℕ) (es : List Event) → slice_get trace.lists thread ≡ Some es
-      → IsLawful limits thread es
+  pub lawful : EachIsLawful limits trace.lists
   -- each number in a list has a name
   pub named : (thread : ℕ) (es : List Event) → slice_get trace.lists thread ≡ Some es
       → All (IsNamed trace.names) es

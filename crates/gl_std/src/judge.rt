@@ -1,21 +1,20 @@
 //! Judging a text line by line. The judge keeps names and what each thread holds, and no events.
-ghost use Rattle.std.specs.Prelude.{◌≡◌, ◌+◌, ◌^◌, ◌<◌, ◌≤◌, [], All, None, OnOk, IfOk, IfSome, length, vec_len};
-ghost use Rattle.gl_event.specs.Lawful.{lock_refusal};
-ghost use Rattle.gl_std.specs.Trace.{event_of, with_event};
-ghost use Rattle.gl_std.specs.bodies.Finding.{ruling_of, with_lists, with_partner};
-ghost use Rattle.gl_std.specs.bodies.Rulings.{IsRulingOf, Stands, StandsRuled};
+ghost use Rattle.std.specs.Prelude.{◌≡◌, ℕ, ◌+◌, ◌^◌, ◌<◌, ◌≤◌, List, Some, None, OnOk, IfSome, length, nat_le, if◌then◌else◌};
+ghost use Rattle.gl_std.specs.Trace.{event_of};
 ghost use Rattle.gl_std.specs.bodies.Shown.{shown_operation};
 
 use crate::faults::{ReadFault, StdKind};
 use crate::line::{Operation, Shape, shape_of};
 use crate::names::{Found, Names};
-use crate::ruling::{Ruling, rule};
+use crate::ruling::Ruling;
 use crate::seed::Seed;
 use gl_event::{Event, Limits, LocId, LockId, ThreadId, ThreadState};
-use std::alloc::{AllocError, Global};
+use std::alloc::Global;
 
 mod blocks;
-mod known;
+mod standings;
+
+use standings::stand;
 
 /// What a line is that isn't at fault.
 #[derive(Clone, Copy)]
@@ -53,10 +52,11 @@ impl Judge {
     ghost use Rattle.gl_std.specs.bodies.States.{HasJudged, IsSound};
     ghost use Rattle.gl_std.specs.bodies.Judgements.{AreApart, HasCountedEvent, HasCountedLine, JudgesLine};
     ghost use Rattle.gl_std.specs.bodies.Rulings.{if_stray, judged_by};
-    ghost use Rattle.gl_std.specs.bodies.Finding.{found_in, limit_found};
+    ghost use Rattle.gl_std.specs.bodies.Finding.{found_in, limit_found, AreFoundAt};
     ghost use Rattle.gl_std.specs.bodies.Shown.{shown};
     ghost use Rattle.gl_std.specs.Trace.{after_line, after_shape, after_call, nothing};
     ghost use Rattle.gl_std.specs.declared.faults.StdKind.{StdKind};
+    ghost use Rattle.gl_std.specs.declared.faults.StdKind.TheVariants.{TooManyEvents};
     ghost use Rattle.gl_std.specs.declared.trace.Trace.{Trace};
 
     /// No line was judged.
@@ -145,7 +145,52 @@ impl Judge {
         self.take_found(operation, thread, operand, location, &found)
     }
 
-    // `take_call`, where its names have these numbers.
+    // `take_call`, where its names have these numbers: none is added.
+    #[inline(always)]
+    fn take_known(
+        &mut self,
+        operation: Operation,
+        thread: ThreadId,
+        operand: u32,
+        loc: LocId,
+    ) -> Result<Judged, ReadFault>
+        requires sound { IsSound self.old }
+        requires there { thread < length self.old.names.threads }
+        requires countable { self.old.line + 1 < 2 ^ 64 }
+        ensures judges { (t o l : List ℕ)
+            → AreFoundAt self.old.names (shown_operation operation) t o l thread operand loc
+            → JudgesLine self.old self.new
+            (λ told. after_call self.old.limits self.old.line told
+            (shown_operation operation) t o l) result }
+        ensures counts { HasCountedEvent self.old self.new }
+    {
+        self.latest = Some(thread);
+        let found = Found {
+            thread: Some(thread),
+            operand: Some(operand),
+            loc: Some(loc),
+        };
+        let limit = self.events_reached(thread);
+        let event = event_of(operation, operand, loc);
+        let ruling = stand(&mut self.standings, operation, &found, event, limit)?;
+        self.judged_by(ruling, &thread, &event)
+    }
+
+    // The limit that doesn't allow another event of the thread, where no name is added.
+    #[inline(always)]
+    fn events_reached(&self, thread: ThreadId) -> Option<StdKind>
+        requires { thread < length self.now.standings.items }
+        ensures { result
+            ≡ (if nat_le self.now.limits.events
+            (count_of self.now.standings.items (Some thread)) then Some TooManyEvents else None) }
+    {
+        if self.standings[thread.number() as usize].events() >= self.limits.events() {
+            return Some(StdKind::TooManyEvents);
+        }
+        None
+    }
+
+    // `take_call`, where some name may have no number yet.
     fn take_found(
         &mut self,
         operation: Operation,
@@ -333,97 +378,5 @@ fn event_of(operation: Operation, operand: u32, loc: LocId) -> Event
             thread: ThreadId::new(operand),
             loc,
         },
-    }
-}
-
-// Lets the thread of the event stand after it, and a new thread that it forks or joins after nothing,
-// unless the held locks or `limit` refuse the event.
-#[inline(always)]
-fn stand(
-    standings: &mut Vec<ThreadState>,
-    operation: Operation,
-    found: &Found,
-    event: Event,
-    limit: Option<StdKind>,
-) -> Result<Ruling, AllocError>
-    requires known { IfSome found.now.thread (λ i. i < vec_len standings.old) }
-    requires fits { All (λ s. s.events + 1 < 2 ^ 32) standings.old.items }
-    ensures ruling { IfOk result
-        (IsRulingOf standings.old.items found.now.thread event limit) }
-    ensures stands { IfOk result (StandsRuled standings.old.items standings.new.items
-        (λ lists. with_lists lists (shown_operation operation) found.now event)) }
-{
-    match stand_own(standings, found, event, limit)? {
-        Ruling::Kept => {
-            add_partner(standings, operation, found)?;
-            Ok(Ruling::Kept)
-        }
-        other => Ok(other),
-    }
-}
-
-// `stand`, for the acting thread, known or new.
-#[inline(always)]
-fn stand_own(
-    standings: &mut Vec<ThreadState>,
-    found: &Found,
-    event: Event,
-    limit: Option<StdKind>,
-) -> Result<Ruling, AllocError>
-    requires known { IfSome found.now.thread (λ i. i < vec_len standings.old) }
-    requires fits { All (λ s. s.events + 1 < 2 ^ 32) standings.old.items }
-    ensures ruling { IfOk result
-        (IsRulingOf standings.old.items found.now.thread event limit) }
-    ensures stands { IfOk result (StandsRuled standings.old.items standings.new.items
-        (λ lists. with_event lists found.now.thread event)) }
-{
-    match found.thread {
-        Some(number) => {
-            let standing = &mut standings[number.number() as usize];
-            Ok(rule(standing, event, limit))
-        }
-        None => stand_first(standings, event, limit),
-    }
-}
-
-// Lets a new thread that the event forks or joins stand after nothing.
-fn add_partner(
-    standings: &mut Vec<ThreadState>,
-    operation: Operation,
-    found: &Found,
-) -> Result<(), AllocError>
-    ensures { OnOk result (Stands standings.old.items standings.new.items
-        (λ lists. with_partner lists (shown_operation operation) found.now)) }
-{
-    if !operation.is_on_thread() {
-        return Ok(());
-    }
-    match found.operand {
-        Some(_) => Ok(()),
-        None => {
-            standings.push(ThreadState::new())?;
-            Ok(())
-        }
-    }
-}
-
-// `stand_own`, for the first event of a thread. It isn't inlined, since a new state is large.
-#[inline(never)]
-fn stand_first(
-    standings: &mut Vec<ThreadState>,
-    event: Event,
-    limit: Option<StdKind>,
-) -> Result<Ruling, AllocError>
-    ensures ruling { IfOk result (λ v. v ≡ ruling_of (lock_refusal [] event) limit) }
-    ensures stands { IfOk result (StandsRuled standings.old.items standings.new.items
-        (λ lists. with_event lists None event)) }
-{
-    let mut standing = ThreadState::new();
-    match rule(&mut standing, event, limit) {
-        Ruling::Kept => {
-            standings.push(standing)?;
-            Ok(Ruling::Kept)
-        }
-        other => Ok(other),
     }
 }

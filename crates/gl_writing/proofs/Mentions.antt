@@ -1,7 +1,7 @@
 -- What tells all events of a trace again mentions all of its names.
 use Rattle.std.proofs.Common.{◌≡◌, ℕ, zero, suc, ◌<◌, Bool, true, false, cond, List, [], ◌∷◌, ◌++◌, length, map, filter, fold, position, get_or, unwrap_or, All, Contains, Option, Some, None, Ok, refl, sym, ap, subst, ◌∙◌, arith}
 use Rattle.std.specs.Prelude.{slice_get}
-use Rattle.std.specs.List.{AllZip, flat_map, list_any}
+use Rattle.std.specs.List.{AllZip, flat_map}
 use Rattle.std.specs.Str.{bytes_eq}
 use Rattle.std.proofs.lemmas.Bool.{false≢true}
 use Rattle.std.proofs.lemmas.List.Elements.{All-append, All-push, All-map}
@@ -12,8 +12,9 @@ use Rattle.gl_event.specs.declared.events.Event.{Event}
 use Rattle.gl_std.specs.Laws.{KeptLine, IsNumbered, threads_in, locks_in, kept_from}
 use Rattle.gl_std.specs.Line.{is_on_thread}
 use Rattle.gl_std.specs.Lines.{lines}
-use Rattle.gl_std.specs.Names.{NameLists}
-use Rattle.gl_std.specs.Trace.{mention, operands, events_of, nothing, trace_of}
+use Rattle.gl_std.specs.Names.{NameLists, with_new}
+use Rattle.gl_std.specs.Trace.{operands, events_of, nothing, trace_of}
+use Rattle.gl_std.specs.bodies.Finding.{with_name}
 use Rattle.gl_writing.specs.Written.{name_at, operand_name, operation_in}
 use Rattle.gl_std.specs.declared.trace.Trace.{Trace}
 use Rattle.gl_std.proofs.KeptLines.{trace_of-kept}
@@ -24,16 +25,16 @@ use Rattle.gl_writing.proofs.ToldAgain.{operand_again, location_again, operation
 -- ---- what holds of names that are mentioned
 
 module _ (P : List ℕ → Type 0) where
-  all_mention : (names : List (List ℕ)) (name : List ℕ) → All P names → P name → All P (mention names name)
-  all_mention names name all here = by (list_any (bytes_eq name) names)
+  all_mention : (names : List (List ℕ)) (name : List ℕ) → All P names → P name → All P (with_new names name)
+  all_mention names name all here = by (position (bytes_eq name) names)
     where
-      by : (b : Bool) → All P (cond b names (names ++ name ∷ []))
-      by true = all
-      by false = All-push P names name all here
+      by : (r : Option ℕ) → All P (with_name names r name)
+      by (Some i) = all
+      by None = All-push P names name all here
 
-  all_mentions : (more names : List (List ℕ)) → All P names → All P more → All P (fold mention names more)
+  all_mentions : (more names : List (List ℕ)) → All P names → All P more → All P (fold with_new names more)
   all_mentions [] names all new = all
-  all_mentions (name ∷ more) names all new = all_mentions more (mention names name) (all_mention names name all (new 0 name (omega arith))) (λ k d h. new (suc k) d (omega (arith, h)))
+  all_mentions (name ∷ more) names all new = all_mentions more (with_new names name) (all_mention names name all (new 0 name (omega arith))) (λ k d h. new (suc k) d (omega (arith, h)))
 
   all_flat_map : (f : KeptLine → List (List ℕ)) (kept : List KeptLine) → All (λ line. All P (f line)) kept → All P (flat_map f kept)
   all_flat_map f [] each = λ k d h. absurd (omega (arith, h))

@@ -2,7 +2,7 @@ use Rattle.std.proofs.Common.{◌≡◌, Some, vec_len, ap, sym, ◌∙◌, arit
 use Rattle.std.proofs.lemmas.Grind.{common_steps}
 use Rattle.gl_std.specs.Trace.{events_of}
 use Rattle.gl_std.proofs.JudgedLines.{standing_own, standing_event}
-use Rattle.gl_std.proofs.judge.stand_own.Goals as goal
+use Rattle.gl_std.proofs.judge.standings.stand_own.Goals as goal
 
 pub returns-in-Some-clause-ruling : goal.returns-in-Some-clause-ruling
 returns-in-Some-clause-ruling c = λ lists are.

@@ -3,7 +3,7 @@ use Rattle.std.proofs.lemmas.Grind.{common_steps}
 use Rattle.gl_std.specs.Line.{is_on_thread}
 use Rattle.gl_std.specs.bodies.Shown.{shown_operation}
 use Rattle.gl_std.proofs.JudgedLines.{standing_partner}
-use Rattle.gl_std.proofs.judge.add_partner.Goals as goal
+use Rattle.gl_std.proofs.judge.standings.add_partner.Goals as goal
 
 pub returns-in_ok-push-in-None : goal.returns-in_ok-push-in-None
 returns-in_ok-push-in-None c = λ lists are.

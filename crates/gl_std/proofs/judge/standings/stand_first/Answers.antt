@@ -1,7 +1,7 @@
 use Rattle.std.proofs.Common.{[], ◌∷◌, ◌++◌, refl, sym, subst}
 use Rattle.gl_std.specs.Standings.{AreStanding}
 use Rattle.gl_std.proofs.JudgedLines.{standing_push}
-use Rattle.gl_std.proofs.judge.stand_first.Goals as goal
+use Rattle.gl_std.proofs.judge.standings.stand_first.Goals as goal
 
 pub returns-in_ok-push-in-Kept-clause-stands : goal.returns-in_ok-push-in-Kept-clause-stands
 returns-in_ok-push-in-Kept-clause-stands c =
