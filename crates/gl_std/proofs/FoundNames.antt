@@ -24,7 +24,7 @@ length-with_name names None name = length_push names name
 length-with_name names (Some i) name = omega arith
 
 -- a name has a place once it is mentioned: the one that it had, or the next one
-placed : (names : List (List ℕ)) (name : List ℕ) → position (bytes_eq name) (with_name names (position (bytes_eq name) names) name) ≡ Some (unwrap_or (position (bytes_eq name) names) (length names))
+pub placed : (names : List (List ℕ)) (name : List ℕ) → position (bytes_eq name) (with_new names name) ≡ Some (number_of names name)
 placed names name = by (position (bytes_eq name) names) refl
   where
     by : (r : Option ℕ) → position (bytes_eq name) names ≡ r → position (bytes_eq name) (with_name names r name) ≡ Some (unwrap_or r (length names))

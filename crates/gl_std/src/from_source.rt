@@ -1,5 +1,5 @@
 //! Reading the text that a source gives.
-ghost use Rattle.std.specs.Prelude.{◌≡◌, ◌+◌, ◌^◌, ◌<◌, ◌≤◌, Bool, false, Ok, Err, IfOk, vec_len};
+ghost use Rattle.std.specs.Prelude.{◌≡◌, ◌^◌, ◌<◌, ◌≤◌, Bool, false, Ok, Err, IfOk, vec_len};
 ghost use Rattle.gl_io.specs.Positions.{Position};
 ghost use Rattle.gl_io.specs.declared.source.TheConstants.{CHUNK};
 ghost use Rattle.gl_std.specs.bodies.Judgements.{CanJudgeLine};

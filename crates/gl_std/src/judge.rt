@@ -1,5 +1,5 @@
 //! Judging a text line by line. The judge keeps names and what each thread holds, and no events.
-ghost use Rattle.std.specs.Prelude.{◌≡◌, ℕ, ◌+◌, ◌^◌, ◌<◌, ◌≤◌, List, Some, None, OnOk, IfSome, length, nat_le, if◌then◌else◌};
+ghost use Rattle.std.specs.Prelude.{◌≡◌, ℕ, ◌+◌, ◌^◌, ◌<◌, List, Some, None, OnOk, IfSome, length, nat_le, if◌then◌else◌};
 ghost use Rattle.gl_std.specs.Trace.{event_of};
 ghost use Rattle.gl_std.specs.bodies.Shown.{shown_operation};
 
@@ -57,7 +57,6 @@ impl Judge {
     ghost use Rattle.gl_std.specs.Trace.{after_line, nothing};
     ghost use Rattle.gl_std.specs.declared.faults.StdKind.{StdKind};
     ghost use Rattle.gl_std.specs.declared.faults.StdKind.TheVariants.{TooManyEvents};
-    ghost use Rattle.gl_std.specs.declared.trace.Trace.{Trace};
 
     /// No line was judged.
     pub(crate) fn new(alloc: Global, limits: Limits, seed: Seed) -> Judge

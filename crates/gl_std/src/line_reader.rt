@@ -1,5 +1,5 @@
 //! The lines of what a source gives, judged one after another as they come.
-ghost use Rattle.std.specs.Prelude.{◌≡◌, ◌+◌, ◌^◌, ◌<◌, ◌≤◌, false, ◌++◌, Contains, IfOk, OnOk, length, take, vec_len};
+ghost use Rattle.std.specs.Prelude.{◌≡◌, ◌+◌, ◌^◌, ◌<◌, ◌≤◌, false, ◌++◌, Contains, IfOk, OnOk, length, take};
 ghost use Rattle.gl_std.specs.bodies.Judgements.{CanJudgeLine};
 ghost use Rattle.gl_std.specs.bodies.States.{HasBegun, IsFit};
 ghost use Rattle.gl_std.specs.Lines.{LF};

@@ -7,7 +7,7 @@
 //! The first piece is read before any thread is started, so that a text that ends in it costs what it costs one
 //! thread. Where most names of a piece are new to it, cutting it ahead doesn't pay: its lines are judged from its text, and
 //! where that is so of all pieces of a round, this thread goes on alone.
-ghost use Rattle.std.specs.Prelude.{◌≡◌, ◌^◌, ◌<◌, ◌≤◌, [], ◌++◌, Bool, true, false, length, vec_len, IfOk, OnOk};
+ghost use Rattle.std.specs.Prelude.{◌≡◌, ◌^◌, ◌<◌, ◌≤◌, [], true, false, vec_len, IfOk};
 ghost use Rattle.gl_io.specs.declared.source.TheConstants.{CHUNK};
 ghost use Rattle.gl_std.specs.Heard.{HasHeard};
 ghost use Rattle.gl_std.specs.Trace.{IsTraceOver};

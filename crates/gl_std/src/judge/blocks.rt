@@ -1,5 +1,5 @@
 //! Judging the lines of a block, whose names have numbers of its own.
-ghost use Rattle.std.specs.Prelude.{◌≡◌, ◌+◌, ◌^◌, ◌<◌, ◌≤◌, false, [], ◌∷◌, All, vec_len, OnOk};
+ghost use Rattle.std.specs.Prelude.{◌≡◌, ◌+◌, ◌^◌, ◌<◌, false, [], ◌∷◌, All, vec_len, OnOk};
 ghost use Rattle.gl_std.specs.Line.{is_on_itself};
 ghost use Rattle.gl_std.specs.Trace.{operands};
 ghost use Rattle.gl_std.specs.bodies.Blocks.{named, shape_in, shapes_of, AreNumbered, CanJudgeNumbered, FailsShapes, IsKnownOf, IsNumbered, TakesShapes};
