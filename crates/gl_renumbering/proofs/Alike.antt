@@ -15,6 +15,7 @@ use Rattle.gl_event.specs.declared.events.Event.{Event}
 use Rattle.gl_event.specs.declared.events.Event.TheVariants.{Acquire, Release, TryAcquire, Fork, Join}
 use Rattle.gl_event.specs.declared.events.Refusal.TheVariants.{PlaceFull, NoSuchThread, OnItself}
 use Rattle.gl_std.specs.Names.{NameLists, number_of, with_new}
+use Rattle.gl_std.proofs.FoundNames.{placed}
 use Rattle.gl_std.proofs.Places.{itself, same_name, number_of as stands_at}
 use Rattle.gl_writing.specs.Written.{name_at}
 use Rattle.gl_writing.proofs.Renumbering.{Renumbered, same_refusal}
@@ -22,7 +23,7 @@ use Rattle.gl_writing.proofs.Renumbering.Renumbered.{acquire, release, try_acqui
 use Rattle.gl_renumbering.specs.Tales.{Tale, told, event_by, tales, mentioned, names_by_mention, lists_by_mention, has_names, have_names, StayLawful, ListsByMentionTellTheSame, SameTalesSameLists}
 use Rattle.gl_renumbering.specs.Tales.Tale.{Acquires, Releases, TryAcquires, Forks, Joins}
 use Rattle.gl_renumbering.specs.bodies.Tables.{with_more}
-use Rattle.gl_renumbering.proofs.Growing.{placed, position-append, mentioned_adds, mentioned-append}
+use Rattle.gl_renumbering.proofs.Growing.{position-append, mentioned_adds, mentioned-append}
 use Rattle.gl_renumbering.proofs.Telling.{one_passes}
 
 -- ---- what holds of each of a list

@@ -13,6 +13,7 @@ use Rattle.std.proofs.lemmas.List.Quantifiers.{all_pairs_push, position-Some}
 use Rattle.std.proofs.lemmas.Map.Made.{length-le_from_is_member, IsDistinct-from_AllPairs, is_member-Decides}
 use Rattle.std.proofs.lemmas.Slice.Eq.{bytes_eq-Decides}
 use Rattle.gl_std.specs.Names.{NameLists, number_of, with_new}
+use Rattle.gl_std.specs.bodies.Finding.{with_name}
 use Rattle.gl_std.proofs.NameBytes.{list_any-absent}
 use Rattle.gl_std.proofs.Places.{position-push, place_after, itself, number_of as stands_at}
 use Rattle.gl_renumbering.specs.Tales.{Tale, lock_in, location_in, mentioned}
@@ -30,21 +31,9 @@ position-append names (next ∷ more) name i is =
 pub number_stays : (names more : List (List ℕ)) (name : List ℕ) (i : ℕ) → position (bytes_eq name) names ≡ Some i → number_of (names ++ more) name ≡ i
 number_stays names more name i is = ap (λ r. unwrap_or r (length (names ++ more))) (position-append names more name i is)
 
--- the names with a new one, by whether it has a place
-abbrev with_placed : List (List ℕ) → Option ℕ → List ℕ → List (List ℕ)
-with_placed names place name = option_map_or (λ _. names) place (names ++ name ∷ [])
-
--- a name has its number once it is mentioned
-pub placed : (names : List (List ℕ)) (name : List ℕ) → position (bytes_eq name) (with_new names name) ≡ Some (number_of names name)
-placed names name = by (position (bytes_eq name) names) refl
-  where
-    by : (r : Option ℕ) → position (bytes_eq name) names ≡ r → position (bytes_eq name) (with_placed names r name) ≡ Some (unwrap_or r (length names))
-    by (Some i) e = e
-    by None e = position-push (bytes_eq name) names name ∙ ap (λ r. place_after r (bytes_eq name name) (length names)) e ∙ ap (λ b. place_after None b (length names)) (itself name)
-
 -- a name that has a number changes nothing
 pub known : (names : List (List ℕ)) (name : List ℕ) (i : ℕ) → position (bytes_eq name) names ≡ Some i → with_new names name ≡ names
-known names name i is = ap (λ r. with_placed names r name) is
+known names name i is = ap (λ r. with_name names r name) is
 
 -- what a name adds
 abbrev added : Option ℕ → List ℕ → List (List ℕ)
@@ -53,7 +42,7 @@ added place name = option_map_or (λ _. []) place (name ∷ [])
 with_new-adds : (names : List (List ℕ)) (name : List ℕ) → with_new names name ≡ names ++ added (position (bytes_eq name) names) name
 with_new-adds names name = by (position (bytes_eq name) names)
   where
-    by : (r : Option ℕ) → with_placed names r name ≡ names ++ added r name
+    by : (r : Option ℕ) → with_name names r name ≡ names ++ added r name
     by (Some i) = sym (append-nil names)
     by None = refl
 
@@ -102,14 +91,14 @@ with_more-none names = λ i. record { threads = names.threads; locks = append-ni
 pub differ_more : (names : List (List ℕ)) (name : List ℕ) → AllPairs (λ a b. a ≢ b) names → AllPairs (λ a b. a ≢ b) (with_new names name)
 differ_more names name differ = by (position (bytes_eq name) names) refl
   where
-    by : (r : Option ℕ) → position (bytes_eq name) names ≡ r → AllPairs (λ a b. a ≢ b) (with_placed names r name)
+    by : (r : Option ℕ) → position (bytes_eq name) names ≡ r → AllPairs (λ a b. a ≢ b) (with_name names r name)
     by (Some i) e = differ
     by None e = all_pairs_push (λ a b. a ≢ b) names name differ (λ k d within same. false≢true (sym (list_any-absent (bytes_eq name) names e) ∙ list_any_at (bytes_eq name) names k d within (ap (bytes_eq name) same ∙ itself name)))
 
 pub among_more : (old names : List (List ℕ)) (name : List ℕ) → All (Contains old) names → Contains old name → All (Contains old) (with_new names name)
 among_more old names name all here = by (position (bytes_eq name) names)
   where
-    by : (r : Option ℕ) → All (Contains old) (with_placed names r name)
+    by : (r : Option ℕ) → All (Contains old) (with_name names r name)
     by (Some i) = all
     by None = All-push (Contains old) names name all here
 

@@ -1,7 +1,6 @@
 -- What is found of a line's names before they are added tells the trace after the line.
-use Rattle.std.proofs.Common.{◌≡◌, ℕ, ◌+◌, Bool, true, false, cond, nat_lt, List, [], ◌∷◌, ◌++◌, length, position, is_none, unwrap_or, Option, Some, None, refl, sym, ap, ◌∙◌, arith}
+use Rattle.std.proofs.Common.{◌≡◌, ℕ, ◌+◌, Bool, true, false, cond, nat_lt, List, length, position, is_none, unwrap_or, Option, Some, None, refl, ap, ◌∙◌, arith}
 use Rattle.std.specs.Prelude.{nat_le}
-use Rattle.std.specs.Option.{option_map_or}
 use Rattle.std.specs.Str.{bytes_eq}
 use Rattle.std.proofs.lemmas.List.{length_push}
 use Rattle.gl_event.specs.Bounds.{Bounds}
@@ -25,7 +24,7 @@ length-with_name names None name = length_push names name
 length-with_name names (Some i) name = omega arith
 
 -- a name has a place once it is mentioned: the one that it had, or the next one
-placed : (names : List (List ℕ)) (name : List ℕ) → position (bytes_eq name) (with_name names (position (bytes_eq name) names) name) ≡ Some (unwrap_or (position (bytes_eq name) names) (length names))
+pub placed : (names : List (List ℕ)) (name : List ℕ) → position (bytes_eq name) (with_new names name) ≡ Some (number_of names name)
 placed names name = by (position (bytes_eq name) names) refl
   where
     by : (r : Option ℕ) → position (bytes_eq name) names ≡ r → position (bytes_eq name) (with_name names r name) ≡ Some (unwrap_or r (length names))

@@ -1,9 +1,9 @@
 //! Reading the text that a source gives.
-ghost use Rattle.std.specs.Prelude.{◌≡◌, ◌+◌, ◌^◌, ◌<◌, ◌≤◌, Bool, false, Ok, Err, IfOk, vec_len};
+ghost use Rattle.std.specs.Prelude.{◌≡◌, ◌^◌, ◌<◌, ◌≤◌, Bool, false, Ok, Err, IfOk, vec_len};
 ghost use Rattle.gl_io.specs.Positions.{Position};
 ghost use Rattle.gl_io.specs.declared.source.TheConstants.{CHUNK};
-ghost use Rattle.gl_std.specs.bodies.States.{IsFit, IsSound};
-ghost use Rattle.gl_std.specs.bodies.Stepping.{StepLeaves};
+ghost use Rattle.gl_std.specs.bodies.Judgements.{CanJudgeLine};
+ghost use Rattle.gl_std.specs.bodies.Stepping.{CanReadOn, StepLeaves};
 ghost use Rattle.gl_std.specs.Heard.{HasHeard};
 ghost use Rattle.gl_std.specs.bodies.Hearing.{Hears, HearsOn};
 ghost use Rattle.gl_std.specs.Trace.{IsTraceOver};
@@ -35,8 +35,7 @@ pub struct Heard {
 // What was heard, where the source has ended. It is done once, so it stays out of the loop over lines.
 #[inline(never)]
 fn finish(alloc: Global, mut reader: LineReader, mut lists: Lists) -> Result<Heard, AllocError>
-    requires sound { IsSound reader.judge }
-    requires countable { reader.judge.line + 1 < 2 ^ 64 }
+    requires { CanJudgeLine reader.judge }
     ensures heard { (now : Position) (failed : Bool)
         → IfOk result (Hears now failed reader lists (Ok End) now failed) }
 {
@@ -94,8 +93,7 @@ fn read_on<R: Source>(
     mut lists: Lists,
     input: &mut R,
 ) -> Result<Heard, AllocError>
-    requires fit { IsFit reader }
-    requires not_failed { R.failed input.old ≡ false }
+    requires { CanReadOn reader (R.failed input.old) }
     ensures { IfOk result
         (HearsOn (R.position input.old) reader lists (R.position input.new)
         (R.failed input.new)) }

@@ -1,5 +1,5 @@
 //! Judging a text line by line. The judge keeps names and what each thread holds, and no events.
-ghost use Rattle.std.specs.Prelude.{◌≡◌, ℕ, ◌+◌, ◌^◌, ◌<◌, ◌≤◌, List, Some, None, OnOk, IfSome, length, nat_le, if◌then◌else◌};
+ghost use Rattle.std.specs.Prelude.{◌≡◌, ℕ, ◌+◌, ◌^◌, ◌<◌, List, Some, None, OnOk, IfSome, length, nat_le, if◌then◌else◌};
 ghost use Rattle.gl_std.specs.Trace.{event_of};
 ghost use Rattle.gl_std.specs.bodies.Shown.{shown_operation};
 
@@ -50,14 +50,13 @@ impl Judge {
     ghost use Rattle.gl_std.specs.Line.{is_on_itself};
     ghost use Rattle.gl_std.specs.bodies.Counting.{count_of};
     ghost use Rattle.gl_std.specs.bodies.States.{HasJudged, IsSound};
-    ghost use Rattle.gl_std.specs.bodies.Judgements.{AreApart, HasCountedEvent, HasCountedLine, JudgesLine};
+    ghost use Rattle.gl_std.specs.bodies.Judgements.{AreApart, CanJudgeLine, HasCountedEvent, HasCountedLine, JudgesCall, JudgesLine, JudgesShape};
     ghost use Rattle.gl_std.specs.bodies.Rulings.{if_stray, judged_by};
     ghost use Rattle.gl_std.specs.bodies.Finding.{found_in, limit_found, AreFoundAt};
     ghost use Rattle.gl_std.specs.bodies.Shown.{shown};
-    ghost use Rattle.gl_std.specs.Trace.{after_line, after_shape, after_call, nothing};
+    ghost use Rattle.gl_std.specs.Trace.{after_line, nothing};
     ghost use Rattle.gl_std.specs.declared.faults.StdKind.{StdKind};
     ghost use Rattle.gl_std.specs.declared.faults.StdKind.TheVariants.{TooManyEvents};
-    ghost use Rattle.gl_std.specs.declared.trace.Trace.{Trace};
 
     /// No line was judged.
     pub(crate) fn new(alloc: Global, limits: Limits, seed: Seed) -> Judge
@@ -82,8 +81,7 @@ impl Judge {
 
     /// What the next line is. After a fault the judge is of no use.
     pub(crate) fn take(&mut self, line: &[u8]) -> Result<Judged, ReadFault>
-        requires sound { IsSound self.old }
-        requires countable { self.old.line + 1 < 2 ^ 64 }
+        requires { CanJudgeLine self.old }
         ensures judges { JudgesLine self.old self.new
             (λ told. after_line self.old.limits self.old.line told line.now) result }
         ensures sound { OnOk result (IsSound self.new) }
@@ -96,11 +94,9 @@ impl Judge {
 
     // `take`, for a line that says this.
     fn take_shape(&mut self, shape: Shape<'_>) -> Result<Judged, ReadFault>
-        requires sound { IsSound self.old }
+        requires can { CanJudgeLine self.old }
         requires apart { AreApart (shown shape) }
-        requires countable { self.old.line + 1 < 2 ^ 64 }
-        ensures judges { JudgesLine self.old self.new
-            (λ told. after_shape self.old.limits self.old.line told (shown shape.entry)) result }
+        ensures judges { JudgesShape self.old (shown shape.entry) self.new result }
         ensures counts { HasCountedLine self.old self.new }
     {
         match shape {
@@ -130,12 +126,10 @@ impl Judge {
         operand: &[u8],
         location: &[u8],
     ) -> Result<Judged, ReadFault>
-        requires sound { IsSound self.old }
+        requires can { CanJudgeLine self.old }
         requires apart { is_on_itself (shown_operation operation) thread.now operand.now ≡ false }
-        requires countable { self.old.line + 1 < 2 ^ 64 }
-        ensures judges { JudgesLine self.old self.new
-            (λ told. after_call self.old.limits self.old.line told
-            (shown_operation operation) thread.now operand.now location.now) result }
+        ensures judges { JudgesCall self.old
+            (shown_operation operation) thread.now operand.now location.now self.new result }
         ensures counts { HasCountedEvent self.old self.new }
     {
         let found = self.find(operation, thread, operand, location);
@@ -154,14 +148,11 @@ impl Judge {
         operand: u32,
         loc: LocId,
     ) -> Result<Judged, ReadFault>
-        requires sound { IsSound self.old }
+        requires can { CanJudgeLine self.old }
         requires there { thread < length self.old.names.threads }
-        requires countable { self.old.line + 1 < 2 ^ 64 }
         ensures judges { (t o l : List ℕ)
             → AreFoundAt self.old.names (shown_operation operation) t o l thread operand loc
-            → JudgesLine self.old self.new
-            (λ told. after_call self.old.limits self.old.line told
-            (shown_operation operation) t o l) result }
+            → JudgesCall self.old (shown_operation operation) t o l self.new result }
         ensures counts { HasCountedEvent self.old self.new }
     {
         self.latest = Some(thread);
@@ -199,14 +190,12 @@ impl Judge {
         location: &[u8],
         found: &Found,
     ) -> Result<Judged, ReadFault>
-        requires sound { IsSound self.old }
+        requires can { CanJudgeLine self.old }
         requires found { found.now
             ≡ found_in self.old.names
             (shown_operation operation) thread.now operand.now location.now }
-        requires countable { self.old.line + 1 < 2 ^ 64 }
-        ensures judges { JudgesLine self.old self.new
-            (λ told. after_call self.old.limits self.old.line told
-            (shown_operation operation) thread.now operand.now location.now) result }
+        ensures judges { JudgesCall self.old
+            (shown_operation operation) thread.now operand.now location.now self.new result }
         ensures counts { HasCountedEvent self.old self.new }
     {
         let alloc = self.alloc;

@@ -1,8 +1,9 @@
 //! The lines of what a source gives, judged one after another as they come.
-ghost use Rattle.std.specs.Prelude.{◌≡◌, ◌+◌, ◌^◌, ◌<◌, ◌≤◌, false, ◌++◌, Contains, IfOk, OnOk, length, take, vec_len};
-ghost use Rattle.gl_std.specs.bodies.States.{HasBegun, IsFit, IsSound};
+ghost use Rattle.std.specs.Prelude.{◌≡◌, ◌+◌, ◌^◌, ◌<◌, ◌≤◌, false, ◌++◌, Contains, IfOk, OnOk, length, take};
+ghost use Rattle.gl_std.specs.bodies.Judgements.{CanJudgeLine};
+ghost use Rattle.gl_std.specs.bodies.States.{HasBegun, IsFit};
 ghost use Rattle.gl_std.specs.Lines.{LF};
-ghost use Rattle.gl_std.specs.bodies.Stepping.{fuel, is_idle, DrainsOn, IsRead, IsStep, OnlyReads};
+ghost use Rattle.gl_std.specs.bodies.Stepping.{fuel, is_idle, CanRead, CanReadOn, DrainsOn, IsRead, IsStep, OnlyReads};
 ghost use Rattle.gl_std.specs.bodies.Taking.{CanTakeLines, EndsLine, OnlyTakes, TakesLast, TakesLine};
 
 use crate::faults::{LinesFault, ReadFault};
@@ -97,8 +98,7 @@ impl LineReader {
     /// What the next line is that isn't blank, or the end of the text. It reads only where no whole
     /// line is left.
     pub(crate) fn next<R: Source>(&mut self, input: &mut R) -> Result<Step, LinesFault>
-        requires fit { IsFit self.old }
-        requires not_failed { R.failed input.old ≡ false }
+        requires { CanReadOn self.old (R.failed input.old) }
         ensures steps { IsStep (R.position input.old) self.old
             (R.position input.new) (R.failed input.new) self.new result }
         ensures found { IfOk result (λ step. is_idle step ≡ false) }
@@ -115,8 +115,7 @@ impl LineReader {
 
     /// What one step brings, a line or a read. It reads only where no whole line is left.
     pub(crate) fn step<R: Source>(&mut self, input: &mut R) -> Result<Step, LinesFault>
-        requires fit { IsFit self.old }
-        requires not_failed { R.failed input.old ≡ false }
+        requires { CanReadOn self.old (R.failed input.old) }
         ensures steps { IsStep (R.position input.old) self.old
             (R.position input.new) (R.failed input.new) self.new result }
         ensures smaller { OnOk result (fuel self.new < fuel self.old) }
@@ -130,9 +129,8 @@ impl LineReader {
 
     // `step`, where nothing is left of the latest read.
     fn read_on<R: Source>(&mut self, input: &mut R) -> Result<Step, LinesFault>
-        requires fit { IsFit self.old }
+        requires can { CanReadOn self.old (R.failed input.old) }
         requires spent { self.old.start ≡ self.old.end }
-        requires not_failed { R.failed input.old ≡ false }
         ensures steps { IsStep (R.position input.old) self.old
             (R.position input.new) (R.failed input.new) self.new result }
         ensures smaller { OnOk result (fuel self.new < fuel self.old) }
@@ -149,8 +147,7 @@ impl LineReader {
 
     /// What the last line is, where the source has ended: blank where LF ended it.
     pub(crate) fn last(&mut self) -> Result<Judged, ReadFault>
-        requires sound { IsSound self.old.judge }
-        requires countable { self.old.judge.line + 1 < 2 ^ 64 }
+        requires { CanJudgeLine self.old.judge }
         ensures takes { TakesLast self.old self.new result }
     {
         if self.unfinished.is_empty() {
@@ -161,8 +158,7 @@ impl LineReader {
 
     /// Reads to the end of the source, and judges nothing. Whether the end was met.
     pub(crate) fn drain<R: Source>(&mut self, input: &mut R) -> bool
-        requires room { vec_len self.old.buffer ≡ CHUNK }
-        requires not_failed { R.failed input.old ≡ false }
+        requires { CanRead self.old (R.failed input.old) }
         ensures { DrainsOn (R.position input.old) self.old
             (R.position input.new) (R.failed input.new) result }
     {
@@ -208,8 +204,7 @@ impl LineReader {
     // One read, where nothing is left of the one before. Whether it gave any bytes.
     fn fill<R: Source>(&mut self, input: &mut R) -> Result<bool, Failed>
         requires left { 0 < self.old.turns }
-        requires room { vec_len self.old.buffer ≡ CHUNK }
-        requires not_failed { R.failed input.old ≡ false }
+        requires can { CanRead self.old (R.failed input.old) }
         ensures read { IsRead (R.position input.old) self.old
             (R.position input.new) (R.failed input.new) self.new result }
         ensures same { OnlyReads self.old self.new }
@@ -250,9 +245,8 @@ impl LineReader {
 #[inline(always)]
 fn end_line(judge: &mut Judge, unfinished: &mut Vec<u8>, end: &[u8]) -> Result<Judged, ReadFault>
     requires one_line { ¬ Contains end.now LF }
-    requires sound { IsSound judge.old }
+    requires can { CanJudgeLine judge.old }
     requires few { length unfinished.old.items ≤ KEPT }
-    requires countable { judge.old.line + 1 < 2 ^ 64 }
     ensures ends { EndsLine judge.old unfinished.old.items end.now
         judge.new unfinished.new.items result }
     ensures limits { judge.new.limits ≡ judge.old.limits }

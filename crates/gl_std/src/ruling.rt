@@ -1,5 +1,5 @@
 //! What becomes of an event that a line tells.
-ghost use Rattle.std.specs.Prelude.{◌≡◌, ◌≢◌, ◌+◌, ◌^◌, ◌<◌, List, [], ◌∷◌, ◌++◌, Option, Some};
+ghost use Rattle.std.specs.Prelude.{◌≡◌, ◌≢◌, ◌+◌, ◌^◌, ◌<◌, List, Option, Some};
 ghost use Rattle.gl_event.specs.Lawful.{lock_refusal};
 ghost use Rattle.gl_event.specs.States.{HasFollowed, StandsAfter};
 ghost use Rattle.gl_event.specs.declared.events.Event.{Event};

@@ -11,7 +11,7 @@ use Rattle.gl_std.specs.LineReading.{HasGiven}
 use Rattle.gl_std.specs.Pieces.{IsFaulty}
 use Rattle.gl_std.specs.bodies.Blocks.{IsBlockOf}
 use Rattle.gl_std.specs.bodies.States.{IsSound, Reaches}
-use Rattle.gl_std.specs.bodies.Stepping.{OnlyReads}
+use Rattle.gl_std.specs.bodies.Stepping.{CanRead, OnlyReads}
 use Rattle.gl_std.specs.declared.block.TheConstants.{LONGEST}
 use Rattle.gl_std.specs.declared.faults.ReadFault.{ReadFault}
 use Rattle.gl_std.specs.declared.faults.ReadFault.TheVariants.{Line}
@@ -104,6 +104,13 @@ pub record HasReadPieces (now : Position) (old : LineReader) (later : Position) 
   pub cut : AreCut pieces
   pub short : AreShort pieces
   pub fewer : ending ≡ More → new.turns < old.turns
+
+-- pieces can be read and cut, by so many threads: none is there yet
+pub record CanReadPieces (cutters : ℕ) (f : LineReader) (failed : Bool) (pieces : List Piece)
+    : Type 0 where
+  pub threads : 0 < cutters
+  pub can : CanRead f failed
+  pub none : pieces ≡ []
 
 -- ---- what is judged
 

@@ -10,6 +10,7 @@ use Rattle.gl_std.specs.Line.Shape.{Blank, Bad, Other, Call}
 use Rattle.gl_std.specs.Lines.{LF, lines, ended_lines}
 use Rattle.gl_std.specs.Names.{NameLists}
 use Rattle.gl_std.specs.Trace.{after_shape, and_then, operands}
+use Rattle.gl_std.specs.bodies.Judgements.{AreApart, CanJudgeLine}
 use Rattle.gl_std.specs.bodies.Shown.{shown_operation}
 use Rattle.gl_std.specs.bodies.States.{HasJudged}
 use Rattle.gl_std.specs.declared.block.Block.{Block}
@@ -128,3 +129,11 @@ FailsShapes old lists shapes result =
     (number : ℕ) (kind : StdKind) → result ≡ Err (Line number kind) → (told : Trace)
     → HasJudged old told → lists ≡ told.lists
     → after_shapes old.limits old.line told shapes ≡ Err (Line number kind)
+
+-- a line of a block can be judged after those before it, where these numbers of the block's names are known
+pub record CanJudgeNumbered (j : Judge) (names : NameLists) (numbers : Known) (line : NumberedLine)
+    : Type 0 where
+  pub can : CanJudgeLine j
+  pub numbered : IsNumbered names line
+  pub apart : AreApart (shape_in names line)
+  pub known : IsKnownOf names j.names numbers

@@ -32,6 +32,16 @@ is_idle End = false
 abbrev pub fuel : LineReader → ℕ
 fuel f = f.turns * (CHUNK + 1) + (f.end - f.start)
 
+-- the next read can be made: there is a buffer for what it gives, and no read has failed
+pub record CanRead (f : LineReader) (failed : Bool) : Type 0 where
+  pub room : vec_len f.buffer ≡ CHUNK
+  pub not_failed : failed ≡ false
+
+-- reading can go on: the reader is fit, and no read has failed
+pub record CanReadOn (f : LineReader) (failed : Bool) : Type 0 where
+  pub fit : IsFit f
+  pub not_failed : failed ≡ false
+
 -- a read that gave some bytes, or met the end
 abbrev pub HasFilled : Bool → ℕ → Position → Position → Bool → LineReader → List ℕ → Type 0
 HasFilled true turns start now failed f text = HasGiven turns start now f.turns (text ++ left_of f)

@@ -7,11 +7,11 @@
 //! The first piece is read before any thread is started, so that a text that ends in it costs what it costs one
 //! thread. Where most names of a piece are new to it, cutting it ahead doesn't pay: its lines are judged from its text, and
 //! where that is so of all pieces of a round, this thread goes on alone.
-ghost use Rattle.std.specs.Prelude.{◌≡◌, ◌^◌, ◌<◌, ◌≤◌, [], ◌++◌, Bool, true, false, length, vec_len, IfOk, OnOk};
+ghost use Rattle.std.specs.Prelude.{◌≡◌, ◌^◌, ◌<◌, ◌≤◌, [], true, false, vec_len, IfOk};
 ghost use Rattle.gl_io.specs.declared.source.TheConstants.{CHUNK};
 ghost use Rattle.gl_std.specs.Heard.{HasHeard};
 ghost use Rattle.gl_std.specs.Trace.{IsTraceOver};
-ghost use Rattle.gl_std.specs.bodies.Ahead.{bytes_of, text_of, AreCut, AreShort, CanJudge, CanReadAhead, HasReadPieces, HearsEnding, HearsFault, HearsFaulty, HearsPieces, HearsRest, IsCut, IsShort, JudgesText};
+ghost use Rattle.gl_std.specs.bodies.Ahead.{bytes_of, text_of, AreCut, AreShort, CanJudge, CanReadAhead, CanReadPieces, HasReadPieces, HearsEnding, HearsFault, HearsFaulty, HearsPieces, HearsRest, IsCut, IsShort, JudgesText};
 ghost use Rattle.gl_std.specs.declared.line_reader.pieces.Ending.TheVariants.{More};
 
 use super::{Heard, finish, read_on, read_source};
@@ -102,10 +102,7 @@ fn read_and_cut<T: Threads + Sync, R: Source>(
     spare: &mut Vec<Piece>,
     pieces: &mut Vec<Piece>,
 ) -> Result<Ending, AllocError>
-    requires threads { 0 < cutters.threads }
-    requires room { vec_len reader.old.buffer ≡ CHUNK }
-    requires not_failed { R.failed input.old ≡ false }
-    requires none { pieces.old.items ≡ [] }
+    requires { CanReadPieces cutters.threads reader.old (R.failed input.old) pieces.old.items }
     ensures { IfOk result
         (HasReadPieces (R.position input.old) reader.old (R.position input.new)
         (R.failed input.new) reader.new pieces.new.items) }
@@ -128,11 +125,9 @@ fn take_and_read<T: Threads + Sync, R: Source>(
     spare: &mut Vec<Piece>,
     pieces: &mut Vec<Piece>,
 ) -> (Result<(), ReadFault>, Result<Ending, AllocError>)
-    requires threads { 0 < cutters.threads }
     requires can { CanJudge judge.old ahead.now }
-    requires room { vec_len reader.old.buffer ≡ CHUNK }
-    requires not_failed { R.failed input.old ≡ false }
-    requires none { pieces.old.items ≡ [] }
+    requires can_read { CanReadPieces cutters.threads
+        reader.old (R.failed input.old) pieces.old.items }
     ensures taken { JudgesText judge.old lists.old (text_of ahead.now)
         judge.new lists.new result.0 }
     ensures read { IfOk result.1
@@ -155,8 +150,8 @@ fn take_and_read<T: Threads + Sync, R: Source>(
             judge.exit.now lists.exit.now result }
     { judge.take_pieces(cutters.alloc, lists, ahead) };
     let mut reading = || -> Result<Ending, AllocError>
-        requires { (0 < cutters.threads) × (vec_len reader.now.buffer ≡ CHUNK)
-            × (R.failed input.now ≡ false) × (pieces.now.items ≡ []) }
+        requires { CanReadPieces cutters.threads
+            reader.now (R.failed input.now) pieces.now.items }
         ensures { IfOk result
             (HasReadPieces (R.position input.entry.now) reader.entry.now
             (R.position input.exit.now) (R.failed input.exit.now) reader.exit.now

@@ -1,10 +1,10 @@
 //! Judging the lines of a block, whose names have numbers of its own.
-ghost use Rattle.std.specs.Prelude.{◌≡◌, ◌+◌, ◌^◌, ◌<◌, ◌≤◌, false, [], ◌∷◌, All, vec_len, OnOk};
+ghost use Rattle.std.specs.Prelude.{◌≡◌, ◌+◌, ◌^◌, ◌<◌, false, [], ◌∷◌, All, vec_len, OnOk};
 ghost use Rattle.gl_std.specs.Line.{is_on_itself};
-ghost use Rattle.gl_std.specs.Trace.{after_shape, operands};
-ghost use Rattle.gl_std.specs.bodies.Blocks.{named, shape_in, shapes_of, AreNumbered, FailsShapes, IsKnownOf, IsNumbered, TakesShapes};
+ghost use Rattle.gl_std.specs.Trace.{operands};
+ghost use Rattle.gl_std.specs.bodies.Blocks.{named, shape_in, shapes_of, AreNumbered, CanJudgeNumbered, FailsShapes, IsKnownOf, IsNumbered, TakesShapes};
 ghost use Rattle.gl_std.specs.bodies.Finding.{found_in};
-ghost use Rattle.gl_std.specs.bodies.Judgements.{AreApart, HasCountedEvent, HasCountedLine, JudgesLine};
+ghost use Rattle.gl_std.specs.bodies.Judgements.{AreApart, HasCountedEvent, HasCountedLine, JudgesShape};
 ghost use Rattle.gl_std.specs.bodies.Shown.{shown_operation};
 ghost use Rattle.gl_std.specs.bodies.States.{IsSound};
 ghost use Rattle.gl_std.specs.declared.numbered_line.NumberedLine.TheVariants.{Call as NumberedCall};
@@ -56,11 +56,7 @@ impl Judge {
         known: &mut Known,
         line: NumberedLine,
     ) -> Result<(), ReadFault>
-        requires sound { IsSound self.old }
-        requires numbered { IsNumbered names.now line }
-        requires apart { AreApart (shape_in names.now line) }
-        requires known { IsKnownOf names.now self.old.names known.old }
-        requires countable { self.old.line + 1 < 2 ^ 64 }
+        requires { CanJudgeNumbered self.old names.now known.old line }
         ensures tells { OnOk result
             (TakesShapes self.old lists.old (shape_in names.now line ∷ []) self.new lists.new) }
         ensures fault { FailsShapes self.old lists.old (shape_in names.now line ∷ []) result }
@@ -83,14 +79,8 @@ impl Judge {
         known: &mut Known,
         line: NumberedLine,
     ) -> Result<Judged, ReadFault>
-        requires sound { IsSound self.old }
-        requires numbered { IsNumbered names.now line }
-        requires apart { AreApart (shape_in names.now line) }
-        requires known { IsKnownOf names.now self.old.names known.old }
-        requires countable { self.old.line + 1 < 2 ^ 64 }
-        ensures judges { JudgesLine self.old self.new
-            (λ told. after_shape self.old.limits self.old.line told (shape_in names.now line))
-            result }
+        requires { CanJudgeNumbered self.old names.now known.old line }
+        ensures judges { JudgesShape self.old (shape_in names.now line) self.new result }
         ensures known { IsKnownOf names.now self.old.names known.new }
         ensures counts { HasCountedLine self.old self.new }
     {
@@ -124,15 +114,11 @@ impl Judge {
         operand: u32,
         location: LocId,
     ) -> Result<Judged, ReadFault>
-        requires sound { IsSound self.old }
-        requires numbered { IsNumbered names.now (NumberedCall operation thread operand location) }
-        requires apart { AreApart
-            (shape_in names.now (NumberedCall operation thread operand location)) }
-        requires known { IsKnownOf names.now self.old.names known.old }
-        requires countable { self.old.line + 1 < 2 ^ 64 }
-        ensures judges { JudgesLine self.old self.new
-            (λ told. after_shape self.old.limits self.old.line told
-            (shape_in names.now (NumberedCall operation thread operand location))) result }
+        requires { CanJudgeNumbered self.old names.now known.old
+            (NumberedCall operation thread operand location) }
+        ensures judges { JudgesShape self.old
+            (shape_in names.now (NumberedCall operation thread operand location))
+            self.new result }
         ensures known { IsKnownOf names.now self.old.names known.new }
         ensures counts { HasCountedEvent self.old self.new }
     {

@@ -1,12 +1,14 @@
 //! Reading ahead: what the reads give is cut into lines before it is judged.
-ghost use Rattle.std.specs.Prelude.{◌≡◌, ◌+◌, ◌^◌, ◌<◌, ◌≤◌, List, [], ◌∷◌, ◌++◌, Contains, false, length, Ok, Some, vec_len, IfOk, IfSome};
+ghost use Rattle.std.specs.Prelude.{◌≡◌, ◌+◌, ◌<◌, ◌≤◌, List, [], ◌∷◌, ◌++◌, Contains, false, length, Ok, Some, vec_len, IfOk, IfSome};
 ghost use Rattle.gl_event.specs.declared.events.Event.{Event};
 ghost use Rattle.gl_io.specs.declared.source.TheConstants.{CHUNK};
 ghost use Rattle.gl_std.specs.Line.{cut_at};
 ghost use Rattle.gl_std.specs.Lines.{LF};
 ghost use Rattle.gl_std.specs.bodies.Ahead.{bytes_of, text_of, AreShort, CanJudge, CanJudgeText, HasAddedPieces, HasFilledPiece, HasGoneOn, IsCut, IsShort, JudgesText};
 ghost use Rattle.gl_std.specs.bodies.Blocks.{IsBlockOf};
+ghost use Rattle.gl_std.specs.bodies.Judgements.{CanJudgeLine};
 ghost use Rattle.gl_std.specs.bodies.States.{IsSound};
+ghost use Rattle.gl_std.specs.bodies.Stepping.{CanRead};
 ghost use Rattle.gl_std.specs.declared.block.TheConstants.{LONGEST};
 ghost use Rattle.gl_std.specs.declared.line_reader.TheConstants.{KEPT};
 ghost use Rattle.gl_std.specs.declared.line_reader.pieces.Ending.TheVariants.{More};
@@ -116,8 +118,7 @@ impl LineReader {
         pieces: &mut Vec<Piece>,
         most: usize,
     ) -> Result<Ending, AllocError>
-        requires room { vec_len self.old.buffer ≡ CHUNK }
-        requires not_failed { R.failed input.old ≡ false }
+        requires can { CanRead self.old (R.failed input.old) }
         requires short { AreShort pieces.old.items }
         requires few { vec_len pieces.old < most }
         ensures { IfOk result
@@ -143,8 +144,7 @@ impl LineReader {
         spare: &mut Vec<Piece>,
         pieces: &mut Vec<Piece>,
     ) -> Result<Ending, AllocError>
-        requires room { vec_len self.old.buffer ≡ CHUNK }
-        requires not_failed { R.failed input.old ≡ false }
+        requires can { CanRead self.old (R.failed input.old) }
         requires short { AreShort pieces.old.items }
         ensures adds { IfOk result
             (HasAddedPieces (R.position input.old) self.old pieces.old.items
@@ -163,8 +163,7 @@ impl LineReader {
         input: &mut R,
         piece: &mut Piece,
     ) -> Result<Ending, AllocError>
-        requires room { vec_len self.old.buffer ≡ CHUNK }
-        requires not_failed { R.failed input.old ≡ false }
+        requires can { CanRead self.old (R.failed input.old) }
         requires none { bytes_of piece.old ≡ [] }
         ensures { IfOk result
             (HasFilledPiece (R.position input.old) self.old piece.old
@@ -187,8 +186,7 @@ impl LineReader {
         input: &mut R,
         piece: &mut Piece,
     ) -> Result<Ending, AllocError>
-        requires room { vec_len self.old.buffer ≡ CHUNK }
-        requires not_failed { R.failed input.old ≡ false }
+        requires can { CanRead self.old (R.failed input.old) }
         requires short { length (bytes_of piece.old) + CHUNK ≤ LONGEST }
         ensures { IfOk result
             (HasFilledPiece (R.position input.old) self.old piece.old
@@ -278,9 +276,8 @@ impl LineReader {
     #[inline(always)]
     fn take_ended(&mut self, alloc: Global, lists: &mut Lists, end: &[u8]) -> Result<(), ReadFault>
         requires one_line { ¬ Contains end.now LF }
-        requires sound { IsSound self.old.judge }
+        requires can { CanJudgeLine self.old.judge }
         requires few { length self.old.unfinished.items ≤ KEPT }
-        requires countable { self.old.judge.line + 1 < 2 ^ 64 }
         ensures { JudgesText self.old lists.old (end.now ++ LF ∷ []) self.new lists.new result }
     {
         let judged = end_line(&mut self.judge, &mut self.unfinished, end)?;

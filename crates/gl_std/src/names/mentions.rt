@@ -1,5 +1,5 @@
 //! Names that get their numbers line by line, each line taken alone.
-ghost use Rattle.std.specs.Prelude.{◌≡◌, ◌+◌, ◌*◌, ◌^◌, ◌<◌, ◌≤◌, Some, length, slice_get, IfOk, OnOk};
+ghost use Rattle.std.specs.Prelude.{◌≡◌, ◌+◌, ◌^◌, ◌<◌, ◌≤◌, Some, length, slice_get, IfOk, OnOk};
 ghost use Rattle.gl_std.specs.Laws.{IsFront};
 ghost use Rattle.gl_std.specs.Line.{Shape};
 ghost use Rattle.gl_std.specs.Line.Shape.{Call};

@@ -1,6 +1,6 @@
 use Rattle.std.proofs.Common.{Some, position, sym, ap, ◌∙◌}
 use Rattle.std.specs.Str.{bytes_eq}
-use Rattle.gl_renumbering.proofs.Growing.{placed}
+use Rattle.gl_std.proofs.FoundNames.{placed}
 use Rattle.gl_renumbering.proofs.numbers.number_location.Goals as goal
 
 pub returns-in-Ok-clause-number : goal.returns-in-Ok-clause-number

@@ -16,8 +16,11 @@ returns-in-Line g c = record {
       };
 }
 
-pub drain-is_whole-requires-clause-not_failed : goal.drain-is_whole-requires-clause-not_failed
-drain-is_whole-requires-clause-not_failed g c = subst (λ fault. StepLeaves (Err fault) (g.R.Source.failed c.args.input.now) c.args.reader) c.in-Line.is c.requires.left
+pub drain-is_whole-requires : goal.drain-is_whole-requires
+drain-is_whole-requires g c = record {
+  room = c.requires.room;
+  not_failed = subst (λ fault. StepLeaves (Err fault) (g.R.Source.failed c.args.input.now) c.args.reader) c.in-Line.is c.requires.left;
+}
 
 -- a read failed, or no turn was left
 pub returns-in-Read : goal.returns-in-Read

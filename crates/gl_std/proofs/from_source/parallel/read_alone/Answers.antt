@@ -5,9 +5,11 @@ use Rattle.gl_std.specs.declared.faults.ReadFault.TheVariants.{Line}
 use Rattle.gl_std.proofs.HeardAhead.{faulty_parts, gone_fit, heard_rest}
 use Rattle.gl_std.proofs.from_source.parallel.read_alone.Goals as goal
 
-pub read_on-requires-clause-fit : goal.read_on-requires-clause-fit
-read_on-requires-clause-fit g c =
-    gone_fit c.args.reader c.args.judge c.take_pieces.new.self c.go_on_from.new.self (text_of c.args.pieces.now) c.requires.on c.in-Ok.ensures.only c.go_on_from.ensures
+pub read_on-requires : goal.read_on-requires
+read_on-requires g c = record {
+  fit = gone_fit c.args.reader c.args.judge c.take_pieces.new.self c.go_on_from.new.self (text_of c.args.pieces.now) c.requires.on c.in-Ok.ensures.only c.go_on_from.ensures;
+  not_failed = c.requires.not_failed;
+}
 
 -- this thread goes on alone
 pub returns-in-Ok : goal.returns-in-Ok

@@ -1,18 +1,24 @@
 use Rattle.std.proofs.Common.{◌≡◌, ◌+◌, ◌<◌, Err, length, map, take, sym, ap, subst, ◌∙◌, arith}
 use Rattle.std.proofs.lemmas.Grind.{common_steps}
-use Rattle.gl_std.specs.bodies.Blocks.{after_shapes, shape_in, HasTakenShapes}
+use Rattle.gl_std.specs.bodies.Blocks.{after_shapes, shape_in, HasTakenShapes, IsNumbered}
 use Rattle.gl_std.specs.bodies.Judgements.{AreApart}
 use Rattle.gl_std.specs.declared.faults.ReadFault.TheVariants.{Line}
 use Rattle.std.proofs.lemmas.List.{get_or-map, length-map}
 use Rattle.gl_std.proofs.NumberedLines.{failed_push, length_map_take, map_take_next, map_take_rest, taken_push}
 use Rattle.gl_std.proofs.judge.Judge.take_block.Goals as goal
 
-pub take_numbered-requires-clause-apart : goal.take_numbered-requires-clause-apart
-take_numbered-requires-clause-apart c =
+pub take_numbered-requires : goal.take_numbered-requires
+take_numbered-requires c =
+    let so_far = c.loop-i.invariant in
     let block = c.args.block.now in
     let shape = shape_in block.names c.index.result.now in
     let within = c.loop-i-test.true in
-    subst AreApart (get_or-map (shape_in block.names) block.lines.items c.loop-i.i c.index.result.now shape (omega (arith, within, c.len-i-end.ensures)) ∙ ap (shape_in block.names) (sym c.index.ensures)) (c.requires.apart c.loop-i.i shape (omega (arith, within, c.len-i-end.ensures, length-map block.lines.items (shape_in block.names))))
+    record {
+      can = record { sound = so_far.sound; countable = omega (arith, within, c.len-i-end.ensures, so_far.line, c.requires.countable) };
+      numbered = subst (IsNumbered block.names) (sym c.index.ensures) (c.requires.numbered c.loop-i.i c.index.result.now (omega (arith, within, c.len-i-end.ensures)));
+      apart = subst AreApart (get_or-map (shape_in block.names) block.lines.items c.loop-i.i c.index.result.now shape (omega (arith, within, c.len-i-end.ensures)) ∙ ap (shape_in block.names) (sym c.index.ensures)) (c.requires.apart c.loop-i.i shape (omega (arith, within, c.len-i-end.ensures, length-map block.lines.items (shape_in block.names))));
+      known = so_far.known;
+    }
 
 pub loop-i-preserved : goal.loop-i-preserved
 loop-i-preserved c =

@@ -22,13 +22,13 @@ returns-clause-judges c =
       | in-Kept+in_ok-tell w ↦
           let mid = record old { latest = found.thread; names = w.tell.new.self; standings = c.stand.new.standings } in
           ruled_line old mid c.judged_by.new.self operation c.args.thread.now c.args.operand.now c.args.location.now found event c.limit_reached-limit.result own ruling c.judged_by.result
-          c.requires.sound c.requires.found is_event c.limit_reached-limit.ensures.fault c.thread_or_next-own.ensures c.in_ok-ruling.ensures.ruling c.in_ok-ruling.ensures.stands
+          c.requires.can.sound c.requires.found is_event c.limit_reached-limit.ensures.fault c.thread_or_next-own.ensures c.in_ok-ruling.ensures.ruling c.in_ok-ruling.ensures.stands
           (λ kept. w.in_ok-tell.ensures) (λ stray. let is = w.in-Kept.is in cc) refl refl refl
           (c.judged_by.ensures.counted ∙ ap (λ (j : Judge). counted j ruling) w.self-is) (c.judged_by.ensures.judged ∙ ap (λ (j : Judge). judged_by ruling j.line own event) w.self-is)
       | in_default w ↦
           let mid = record old { latest = found.thread; standings = c.stand.new.standings } in
           ruled_line old mid c.judged_by.new.self operation c.args.thread.now c.args.operand.now c.args.location.now found event c.limit_reached-limit.result own ruling c.judged_by.result
-          c.requires.sound c.requires.found is_event c.limit_reached-limit.ensures.fault c.thread_or_next-own.ensures c.in_ok-ruling.ensures.ruling c.in_ok-ruling.ensures.stands
+          c.requires.can.sound c.requires.found is_event c.limit_reached-limit.ensures.fault c.thread_or_next-own.ensures c.in_ok-ruling.ensures.ruling c.in_ok-ruling.ensures.stands
           (λ kept. absurd (w.in_default.not-Kept kept)) (λ stray. refl) refl refl refl
           (c.judged_by.ensures.counted ∙ ap (λ (j : Judge). counted j ruling) w.self-is) (c.judged_by.ensures.judged ∙ ap (λ (j : Judge). judged_by ruling j.line own event) w.self-is)
     ]

@@ -12,8 +12,8 @@ returns-clause-judges c = λ t o l at.
     let own = c.args.thread in
     let operation = shown_operation c.args.operation in
     let found : Found = record { thread = Some own; operand = Some c.args.operand; loc = Some c.args.loc } in
-    let limit = c.events_reached-limit.ensures ∙ known_limit old.limits old.names (count_of old.standings.items (Some own)) operation own c.args.operand c.args.loc c.requires.sound.threads_fit c.requires.sound.locks_fit c.requires.sound.locs_fit in
+    let limit = c.events_reached-limit.ensures ∙ known_limit old.limits old.names (count_of old.standings.items (Some own)) operation own c.args.operand c.args.loc c.requires.can.sound.threads_fit c.requires.can.sound.locks_fit c.requires.can.sound.locs_fit in
     let none_new = known_names old.names operation t o l own c.args.operand c.args.loc in
     let mid = record old { latest = Some own; standings = c.stand.new.standings } in
-    ruled_line old mid c.judged_by.new.self operation t o l found c.event_of-event.result c.events_reached-limit.result own c.in_ok-ruling.ruling c.judged_by.result c.requires.sound at c.event_of-event.ensures limit refl c.in_ok-ruling.ensures.ruling c.in_ok-ruling.ensures.stands
+    ruled_line old mid c.judged_by.new.self operation t o l found c.event_of-event.result c.events_reached-limit.result own c.in_ok-ruling.ruling c.judged_by.result c.requires.can.sound at c.event_of-event.ensures limit refl c.in_ok-ruling.ensures.ruling c.in_ok-ruling.ensures.stands
     (λ kept. none_new) (λ stray. refl) refl refl refl c.judged_by.ensures.counted c.judged_by.ensures.judged

@@ -22,7 +22,7 @@ pub returns-clause-known : goal.returns-clause-known
 returns-clause-known c =
     let old = c.args.self.now in
     let new = c.judge_numbered.new.self in
-    let was = c.requires.sound in
+    let was = c.requires.can.sound in
     let judges = c.in_ok-judged.ensures.judges in
     let shape = shape_in c.args.names.now c.args.line in
     let told = with_judged c.in_ok-judged.judged new.names was.told in
@@ -36,7 +36,7 @@ pub returns-clause-sound : goal.returns-clause-sound
 returns-clause-sound c =
     let old = c.args.self.now in
     let new = c.judge_numbered.new.self in
-    let was = c.requires.sound in
+    let was = c.requires.can.sound in
     let judges = c.in_ok-judged.ensures.judges in
     let shape = shape_in c.args.names.now c.args.line in
     let told = with_judged c.in_ok-judged.judged new.names was.told in

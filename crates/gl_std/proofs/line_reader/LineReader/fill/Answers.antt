@@ -8,10 +8,10 @@ pub returns-clause-read : goal.returns-clause-read
 returns-clause-read g c =
     let old = c.args.self.now in
     let piece = take c.in_ok-count.count c.read.new.buffer in
-    let room : length c.read.new.buffer ≡ CHUNK = omega (arith, c.read.auto.buffer, c.as_mut_slice.ensures.len, c.requires.room) in
+    let room : length c.read.new.buffer ≡ CHUNK = omega (arith, c.read.auto.buffer, c.as_mut_slice.ensures.len, c.requires.can.room) in
     let gave = c.in_ok-count.ensures.bytes in
     filled_buffer c.in_ok-count.count _ _ _ old _ piece refl
-    (ap (take c.in_ok-count.count) (with_items_is old.buffer c.read.new.buffer (room ∙ sym c.requires.room)))
+    (ap (take c.in_ok-count.count) (with_items_is old.buffer c.read.new.buffer (room ∙ sym c.requires.can.room)))
     (length-take-le c.in_ok-count.count c.read.new.buffer c.in_ok-count.ensures.bound.0)
     (omega (arith, c.in_ok-count.ensures.bound.0, room)) refl
     c.requires.left (omega (arith, c.requires.left)) c.in_ok-count.ensures.failed gave.0

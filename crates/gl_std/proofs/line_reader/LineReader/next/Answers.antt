@@ -16,8 +16,5 @@ loop-step-preserved g c = step_after _ _ _ _ _ _ _ _ c.loop-step.step _ (sym c.i
 pub returns-in-Err-clause-steps : goal.returns-in-Err-clause-steps
 returns-in-Err-clause-steps g c = step_after _ _ _ _ _ _ _ _ c.loop-step.step _ (sym c.is_idle.ensures ∙ c.loop-step-test.true) c.loop-step.invariant c.in-Err.ensures.steps
 
-pub step-requires-clause-fit : goal.step-requires-clause-fit
-step-requires-clause-fit g c = c.loop-step.invariant.leaves.1
-
-pub step-requires-clause-not_failed : goal.step-requires-clause-not_failed
-step-requires-clause-not_failed g c = c.loop-step.invariant.leaves.0
+pub step-requires : goal.step-requires
+step-requires g c = let leaves = c.loop-step.invariant.leaves in record { fit = leaves.1; not_failed = leaves.0 }

@@ -6,10 +6,10 @@ use Rattle.gl_std.proofs.line_reader.LineReader.read_ahead.Goals as goal
 
 pub loop-ending-init : goal.loop-ending-init
 loop-ending-init g c = record {
-  reads = read_on_none _ c.args.self.now (text_of c.args.pieces.now.items) _ c.requires.not_failed;
+  reads = read_on_none _ c.args.self.now (text_of c.args.pieces.now.items) _ c.requires.can.not_failed;
   only = record { same_judge = refl; same_beginning = refl; same_size = refl };
   short = c.requires.short;
-  not_failed = c.requires.not_failed;
+  not_failed = c.requires.can.not_failed;
   few = omega arith;
 }
 

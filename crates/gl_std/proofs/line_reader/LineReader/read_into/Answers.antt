@@ -6,10 +6,10 @@ use Rattle.gl_std.proofs.line_reader.LineReader.read_into.Goals as goal
 
 pub loop-ending-init : goal.loop-ending-init
 loop-ending-init g c = record {
-  reads = read_on_none _ c.args.self.now (bytes_of c.args.piece.now) _ c.requires.not_failed;
+  reads = read_on_none _ c.args.self.now (bytes_of c.args.piece.now) _ c.requires.can.not_failed;
   only = record { same_judge = refl; same_beginning = refl; same_size = refl };
   room = omega (arith, ap length c.requires.none);
-  not_failed = c.requires.not_failed;
+  not_failed = c.requires.can.not_failed;
   few = omega arith;
 }
 

@@ -32,7 +32,7 @@ returns-in-Ok-true-clause-steps g c =
       tells = λ limits turns start text told is.
           record { piece = left_of new; stepped = read_more limits turns start _ _ old new text told is left same.same_judge (ap (λ u. u.items) same.same_beginning) (read.filled turns start text is.given) };
       known = tt;
-      leaves = (read.sound, read_fit _ _ _ _ old new c.requires.fit read same);
+      leaves = (read.sound, read_fit _ _ _ _ old new c.requires.can.fit read same);
       same_size = same.same_size;
     }
 
@@ -49,7 +49,7 @@ returns-in-Ok-false-clause-steps g c =
           stepped_here limits turns start _ _ new text told _
           (read.filled turns start text is.given, ap (λ j. j.limits) same.same_judge ∙ is.same, over_of old new text told is.at left same.same_judge (ap (λ u. u.items) same.same_beginning));
       known = tt;
-      leaves = (read.sound, read_fit _ _ _ _ old new c.requires.fit read same);
+      leaves = (read.sound, read_fit _ _ _ _ old new c.requires.can.fit read same);
       same_size = same.same_size;
     }
 

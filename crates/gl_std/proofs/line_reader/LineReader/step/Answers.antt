@@ -32,11 +32,14 @@ returns-in-Ok-Some-clause-smaller g c =
     line_less old new c.in-Ok-Some.judged taken c.take_line.ensures.same
 
 -- none was left
-pub read_on-requires-clause-fit : goal.read_on-requires-clause-fit
-read_on-requires-clause-fit g c =
+pub read_on-requires-clause-can : goal.read_on-requires-clause-can
+read_on-requires-clause-can g c =
     let old = c.args.self.now in
     let new = c.take_line.new.self in
-    rest_fit old new c.requires.fit (subst (λ line. TakesLine old new (Ok line)) c.in-Ok-None.field-0-is c.in-Ok-None.ensures.takes) c.take_line.ensures.same
+    record {
+      fit = rest_fit old new c.requires.fit (subst (λ line. TakesLine old new (Ok line)) c.in-Ok-None.field-0-is c.in-Ok-None.ensures.takes) c.take_line.ensures.same;
+      not_failed = c.requires.not_failed;
+    }
 
 pub read_on-requires-clause-spent : goal.read_on-requires-clause-spent
 read_on-requires-clause-spent g c =

@@ -17,11 +17,14 @@ loop-end-init c = record {
 pub take_ended-requires-clause-one_line : goal.take_ended-requires-clause-one_line
 take_ended-requires-clause-one_line c = (first_end c.loop-end.rest.now c.in-Some.end.now c.in-Some.after.now c.in-Some.ensures).1
 
-pub take_ended-requires-clause-countable : goal.take_ended-requires-clause-countable
-take_ended-requires-clause-countable c =
+pub take_ended-requires-clause-can : goal.take_ended-requires-clause-can
+take_ended-requires-clause-can c =
     let so_far = c.loop-end.invariant in
     let cut = ap length (first_end c.loop-end.rest.now c.in-Some.end.now c.in-Some.after.now c.in-Some.ensures).0 in
-    omega (arith, cut, length-append c.in-Some.end.now (LF ∷ c.in-Some.after.now), ap length so_far.parts, length-append so_far.front c.loop-end.rest.now, so_far.only.lines, c.requires.can.countable)
+    record {
+      sound = so_far.only.sound;
+      countable = omega (arith, cut, length-append c.in-Some.end.now (LF ∷ c.in-Some.after.now), ap length so_far.parts, length-append so_far.front c.loop-end.rest.now, so_far.only.lines, c.requires.can.countable);
+    }
 
 pub loop-end-preserved : goal.loop-end-preserved
 loop-end-preserved c =

@@ -5,8 +5,11 @@ use Rattle.gl_std.specs.bodies.Stepping.{is_idle, IsStep}
 use Rattle.gl_std.proofs.ItemByItem.{again_reading, fit_of, known_item, leaves_reading, reads_shown, stopped, told_item, told_reading}
 use Rattle.gl_std.proofs.stream.Items.read_on.Goals as goal
 
-pub next-requires-clause-fit : goal.next-requires-clause-fit
-next-requires-clause-fit g c = fit_of c.self.inside.stage c.self.inside.reader c.args.self.now c.self.view_is c.self.invariant c.requires.reading c.requires.fit
+pub next-requires : goal.next-requires
+next-requires g c = record {
+  fit = fit_of c.self.inside.stage c.self.inside.reader c.args.self.now c.self.view_is c.self.invariant c.requires.reading c.requires.fit;
+  not_failed = c.requires.not_failed;
+}
 
 -- a line
 pub returns-in-Ok-Told-clause-next : goal.returns-in-Ok-Told-clause-next
