@@ -6,7 +6,7 @@
 ghost use Rattle.std.specs.Prelude.{◌≡◌, ℕ, ◌+◌, ◌<◌, ◌≤◌, ◌^◌, List, [], ◌∷◌, ◌++◌, length, max, slice_get, slice_index, slice_index_or, slice_set, Some, IfOk, OnOk};
 ghost use Rattle.std.specs.List.Sorted.{IsNonDecreasingBy};
 ghost use Rattle.gl_segments.specs.declared.growths.Growth.{Growth};
-ghost use Rattle.gl_segments.specs.bodies.Histories.{count_at, AreOrdered, IsNoted};
+ghost use Rattle.gl_segments.specs.bodies.Histories.{count_at, AreOrdered, IsNoted, KeepsClocks};
 ghost use Rattle.gl_segments.specs.bodies.Search.{IsAmong, GrowsBy};
 ghost use Rattle.gl_segments.specs.bodies.Merging.{IsMerged, IsReached};
 
@@ -201,9 +201,7 @@ impl Growing {
         ensures thread { self.new.thread ≡ self.old.thread }
         ensures segments { self.new.segments ≡ self.old.segments }
         ensures latest { OnOk result (self.new.latest ≡ clock.now) }
-        ensures noted { OnOk result
-            ((clocks : List (List ℕ)) → 0 < length clocks → IsNoted self.old clocks
-            → IsNoted self.new clocks) }
+        ensures noted { OnOk result (KeepsClocks self.old self.new) }
     {
         for link in found {
             let thread = link.segment.thread;
@@ -218,9 +216,7 @@ impl Growing {
         ensures thread { self.new.thread ≡ self.old.thread }
         ensures segments { self.new.segments ≡ self.old.segments }
         ensures latest { OnOk result (self.new.latest ≡ slice_set self.old.latest thread count) }
-        ensures noted { OnOk result
-            ((clocks : List (List ℕ)) → 0 < length clocks → IsNoted self.old clocks
-            → IsNoted self.new clocks) }
+        ensures noted { OnOk result (KeepsClocks self.old self.new) }
     {
         if self.latest.ahead(thread) == count {
             return Ok(());
@@ -245,9 +241,7 @@ impl Growing {
         ensures latest { OnOk result
             (self.new.latest ≡ slice_set self.old.latest thread
             (max (slice_index self.old.latest thread) count)) }
-        ensures noted { OnOk result
-            ((clocks : List (List ℕ)) → 0 < length clocks → IsNoted self.old clocks
-            → IsNoted self.new clocks) }
+        ensures noted { OnOk result (KeepsClocks self.old self.new) }
     {
         if count <= self.latest.ahead(thread) {
             return Ok(());
@@ -264,9 +258,7 @@ impl Growing {
         ensures latest { OnOk result
             (IsMerged self.old.latest (slice_index_or other.now index []) self.new.latest
             (length self.old.latest)) }
-        ensures noted { OnOk result
-            ((clocks : List (List ℕ)) → 0 < length clocks → IsNoted self.old clocks
-            → IsNoted self.new clocks) }
+        ensures noted { OnOk result (KeepsClocks self.old self.new) }
     {
         self.reach(other, index, other.thread, index)?;
         self.reach_first(other, index, &other.first)?;
@@ -285,9 +277,7 @@ impl Growing {
             ((k : ℕ) → k < length first.now
             → IsReached (slice_index_or other.now index []) self.new.latest k
             (slice_index first.now k)) }
-        ensures noted { OnOk result
-            ((clocks : List (List ℕ)) → 0 < length clocks → IsNoted self.old clocks
-            → IsNoted self.new clocks) }
+        ensures noted { OnOk result (KeepsClocks self.old self.new) }
     {
         let threads = first.len().min(self.latest.threads());
         for place in 0..threads {
@@ -311,9 +301,7 @@ impl Growing {
         ensures reached { OnOk result
             ((p : ℕ) (g : Growth) → slice_get growths.now p ≡ Some g
             → IsReached (slice_index_or other.now index []) self.new.latest g.thread g.count) }
-        ensures noted { OnOk result
-            ((clocks : List (List ℕ)) → 0 < length clocks → IsNoted self.old clocks
-            → IsNoted self.new clocks) }
+        ensures noted { OnOk result (KeepsClocks self.old self.new) }
     {
         for at in 0..growths.len() {
             let growth = growths.get(at);
@@ -336,9 +324,7 @@ impl Growing {
             (IsMerged self.old.latest (slice_index_or other.now index []) self.new.latest 0) }
         ensures reached { OnOk result
             (IsReached (slice_index_or other.now index []) self.new.latest thread count) }
-        ensures noted { OnOk result
-            ((clocks : List (List ℕ)) → 0 < length clocks → IsNoted self.old clocks
-            → IsNoted self.new clocks) }
+        ensures noted { OnOk result (KeepsClocks self.old self.new) }
     {
         if count <= self.latest.ahead(thread) {
             return Ok(());
