@@ -6,7 +6,7 @@
 ghost use Rattle.std.specs.Prelude.{◌≡◌, ℕ, ◌+◌, ◌<◌, ◌≤◌, ◌^◌, List, [], ◌∷◌, ◌++◌, length, max, slice_get, slice_index, slice_index_or, slice_set, Some, IfOk, OnOk};
 ghost use Rattle.std.specs.List.Sorted.{IsNonDecreasingBy};
 ghost use Rattle.gl_segments.specs.declared.growths.Growth.{Growth};
-ghost use Rattle.gl_segments.specs.bodies.Histories.{count_at, AreOrdered, IsNoted, KeepsClocks};
+ghost use Rattle.gl_segments.specs.bodies.Histories.{count_at, AddsNoClock, AreOrdered, IsNoted, KeepsClocks};
 ghost use Rattle.gl_segments.specs.bodies.Search.{IsAmong, GrowsBy};
 ghost use Rattle.gl_segments.specs.bodies.Merging.{IsMerged, IsReached};
 
@@ -167,8 +167,7 @@ impl Growing {
         requires width { length clock.now ≡ length self.old.latest }
         requires among { IsAmong found.now (length clock.now) }
         requires grown { 0 < self.old.segments → GrowsBy self.old.latest found.now clock.now }
-        ensures thread { self.new.thread ≡ self.old.thread }
-        ensures segments { self.new.segments ≡ self.old.segments }
+        ensures still { AddsNoClock self.old self.new }
         ensures latest { OnOk result (self.new.latest ≡ clock.now) }
         ensures noted { OnOk result
             ((clocks : List (List ℕ)) → IsNoted self.old clocks → IsNoted self.new clocks) }
@@ -181,8 +180,7 @@ impl Growing {
 
     // Keeps the first clock.
     fn begin(&mut self, alloc: Global, clock: &Clock) -> Result<(), AllocError>
-        ensures thread { self.new.thread ≡ self.old.thread }
-        ensures segments { self.new.segments ≡ self.old.segments }
+        ensures still { AddsNoClock self.old self.new }
         ensures latest { OnOk result (self.new.latest ≡ clock.now) }
         ensures noted { OnOk result
             ((clocks : List (List ℕ)) → length clocks ≡ 0 → IsNoted self.old clocks
@@ -198,8 +196,7 @@ impl Growing {
         requires width { length clock.now ≡ length self.old.latest }
         requires among { IsAmong found.now (length clock.now) }
         requires grown { GrowsBy self.old.latest found.now clock.now }
-        ensures thread { self.new.thread ≡ self.old.thread }
-        ensures segments { self.new.segments ≡ self.old.segments }
+        ensures still { AddsNoClock self.old self.new }
         ensures latest { OnOk result (self.new.latest ≡ clock.now) }
         ensures noted { OnOk result (KeepsClocks self.old self.new) }
     {
@@ -213,8 +210,7 @@ impl Growing {
     /// Notes the next count of a thread.
     pub fn note_count(&mut self, thread: ThreadId, count: u32) -> Result<(), AllocError>
         requires { thread < length self.old.latest }
-        ensures thread { self.new.thread ≡ self.old.thread }
-        ensures segments { self.new.segments ≡ self.old.segments }
+        ensures still { AddsNoClock self.old self.new }
         ensures latest { OnOk result (self.new.latest ≡ slice_set self.old.latest thread count) }
         ensures noted { OnOk result (KeepsClocks self.old self.new) }
     {
@@ -236,8 +232,7 @@ impl Growing {
     /// Notes the next count of a thread, where it is greater than the latest one.
     pub fn raise(&mut self, thread: ThreadId, count: u32) -> Result<(), AllocError>
         requires { thread < length self.old.latest }
-        ensures thread { self.new.thread ≡ self.old.thread }
-        ensures segments { self.new.segments ≡ self.old.segments }
+        ensures still { AddsNoClock self.old self.new }
         ensures latest { OnOk result
             (self.new.latest ≡ slice_set self.old.latest thread
             (max (slice_index self.old.latest thread) count)) }
@@ -253,8 +248,7 @@ impl Growing {
     /// is kept of that one, and asks for the clock's count only where it may be the greater one.
     pub fn merge(&mut self, other: &History, index: u32) -> Result<(), AllocError>
         requires { length self.old.latest < 2 ^ 32 }
-        ensures thread { self.new.thread ≡ self.old.thread }
-        ensures segments { self.new.segments ≡ self.old.segments }
+        ensures still { AddsNoClock self.old self.new }
         ensures latest { OnOk result
             (IsMerged self.old.latest (slice_index_or other.now index []) self.new.latest
             (length self.old.latest)) }
@@ -269,8 +263,7 @@ impl Growing {
     // The same for each thread that the other thread's first clock counts.
     fn reach_first(&mut self, other: &History, index: u32, first: &[u32]) -> Result<(), AllocError>
         requires { length self.old.latest < 2 ^ 32 }
-        ensures thread { self.new.thread ≡ self.old.thread }
-        ensures segments { self.new.segments ≡ self.old.segments }
+        ensures still { AddsNoClock self.old self.new }
         ensures latest { OnOk result
             (IsMerged self.old.latest (slice_index_or other.now index []) self.new.latest 0) }
         ensures reached { OnOk result
@@ -294,8 +287,7 @@ impl Growing {
         index: u32,
         growths: &Growths,
     ) -> Result<(), AllocError>
-        ensures thread { self.new.thread ≡ self.old.thread }
-        ensures segments { self.new.segments ≡ self.old.segments }
+        ensures still { AddsNoClock self.old self.new }
         ensures latest { OnOk result
             (IsMerged self.old.latest (slice_index_or other.now index []) self.new.latest 0) }
         ensures reached { OnOk result
@@ -318,8 +310,7 @@ impl Growing {
         thread: ThreadId,
         count: u32,
     ) -> Result<(), AllocError>
-        ensures thread { self.new.thread ≡ self.old.thread }
-        ensures segments { self.new.segments ≡ self.old.segments }
+        ensures still { AddsNoClock self.old self.new }
         ensures latest { OnOk result
             (IsMerged self.old.latest (slice_index_or other.now index []) self.new.latest 0) }
         ensures reached { OnOk result

@@ -2,7 +2,7 @@
 ghost use Rattle.std.specs.Prelude.{◌≡◌, ◌+◌, ◌<◌, ◌≤◌, ◌^◌, [], length, slice_get, slice_index_or, slice_set, Some, IfOk, OnOk};
 ghost use Rattle.gl_event.specs.declared.events.Segment.{Segment};
 ghost use Rattle.gl_segments.specs.bodies.Fronts.{first_of};
-ghost use Rattle.gl_segments.specs.bodies.Histories.{KeepsClocks};
+ghost use Rattle.gl_segments.specs.bodies.Histories.{AddsNoClock, KeepsClocks};
 ghost use Rattle.gl_segments.specs.bodies.Merging.{raised_to, IsMerged};
 ghost use Rattle.gl_segments.specs.bodies.Rows.{AreClocksTo};
 ghost use Rattle.gl_segments.specs.bodies.Search.{Counts, IsClockOf};
@@ -96,8 +96,7 @@ impl Rows {
         requires width { length growing.old.latest < 2 ^ 32 }
         requires within { source.thread < length growing.old.latest }
         requires small { source.index + 1 < 2 ^ 32 }
-        ensures thread { growing.new.thread ≡ growing.old.thread }
-        ensures segments { growing.new.segments ≡ growing.old.segments }
+        ensures still { AddsNoClock growing.old growing.new }
         ensures part { OnOk result
             ((steps : Sources) (target : Segment) → IsSound steps → HaveRows steps self.now
             → LeadsTo steps source target → IsPart steps growing.old.latest target
@@ -165,8 +164,7 @@ fn joined(growing: &mut Growing, history: &History, source: Segment) -> Result<(
     requires width { length growing.old.latest < 2 ^ 32 }
     requires within { source.thread < length growing.old.latest }
     requires small { source.index + 1 < 2 ^ 32 }
-    ensures thread { growing.new.thread ≡ growing.old.thread }
-    ensures segments { growing.new.segments ≡ growing.old.segments }
+    ensures still { AddsNoClock growing.old growing.new }
     ensures latest { OnOk result
         (IsMerged (raised_to growing.old.latest source)
         (slice_index_or history.now source.index []) growing.new.latest

@@ -7,7 +7,7 @@
 //! itself.
 ghost use Rattle.std.specs.Prelude.{◌≡◌, ℕ, ◌+◌, ◌<◌, ◌≤◌, ◌^◌, List, None, length, Contains, IfOk, IfSome, OnOk};
 ghost use Rattle.gl_segments.specs.bodies.Fronts.{first_of, AreStarting, IsFront};
-ghost use Rattle.gl_segments.specs.bodies.Histories.{KeepsClocks};
+ghost use Rattle.gl_segments.specs.bodies.Histories.{AddsNoClock, KeepsClocks};
 ghost use Rattle.gl_segments.specs.bodies.Rows.{AreClocksTo};
 ghost use Rattle.gl_segments.specs.bodies.Search.{Counts, IsClockOf, CountsSources};
 ghost use Rattle.gl_segments.specs.bodies.Sweeps.{AreSwept, CanSweep, CountsAll, HaveRows, IsGrowing, IsPart};
@@ -340,8 +340,7 @@ fn gather(steps: &Steps, rows: &Rows, growing: &mut Growing, at: Segment) -> Res
     requires has { Has steps.now at }
     requires part { IsPart steps.now growing.old.latest at }
     requires rows { HaveRows steps.now rows.now }
-    ensures thread { growing.new.thread ≡ growing.old.thread }
-    ensures segments { growing.new.segments ≡ growing.old.segments }
+    ensures still { AddsNoClock growing.old growing.new }
     ensures part { OnOk result (IsPart steps.now growing.new.latest at) }
     ensures noted { OnOk result (KeepsClocks growing.old growing.new) }
 {
