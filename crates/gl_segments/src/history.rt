@@ -3,7 +3,7 @@
 //! Along a thread, what is before its segments only grows, and most of its segments add nothing to
 //! it. So a clock is kept for the first segment alone, and then each growth: from which segment on
 //! how many segments of which thread are before.
-ghost use Rattle.std.specs.Prelude.{◌≡◌, ℕ, ◌+◌, ◌<◌, ◌≤◌, ◌^◌, List, [], ◌∷◌, ◌++◌, length, max, slice_get, slice_index, slice_index_or, slice_set, Some, IfOk, OnOk};
+ghost use Rattle.std.specs.Prelude.{◌≡◌, ℕ, ◌+◌, ◌<◌, ◌^◌, List, [], ◌∷◌, ◌++◌, length, max, slice_get, slice_index, slice_index_or, slice_set, Some, IfOk, OnOk};
 ghost use Rattle.std.specs.List.Sorted.{IsNonDecreasingBy};
 ghost use Rattle.gl_segments.specs.declared.growths.Growth.{Growth};
 ghost use Rattle.gl_segments.specs.bodies.Histories.{count_at, AddsNoClock, AreOrdered, IsNoted, KeepsClocks};

@@ -5,13 +5,13 @@
 //! segments wait for each other, and then some segment is before itself. Of this nothing is proved: a
 //! clock is taken only where it counts all that is one step before its segment, and not the segment
 //! itself.
-ghost use Rattle.std.specs.Prelude.{◌≡◌, ℕ, ◌+◌, ◌<◌, ◌≤◌, ◌^◌, List, None, length, Contains, IfOk, IfSome, OnOk};
+ghost use Rattle.std.specs.Prelude.{◌≡◌, ◌+◌, ◌<◌, None, length, IfOk, OnOk};
 ghost use Rattle.gl_segments.specs.bodies.Fronts.{first_of, AreStarting, IsFront};
 ghost use Rattle.gl_segments.specs.bodies.Histories.{AddsNoClock, KeepsClocks};
 ghost use Rattle.gl_segments.specs.bodies.Rows.{AreClocksTo};
 ghost use Rattle.gl_segments.specs.bodies.Search.{Counts, IsClockOf, CountsSources};
 ghost use Rattle.gl_segments.specs.bodies.Sweeps.{AreSwept, CanSweep, CountsAll, HaveRows, IsGrowing, IsPart};
-ghost use Rattle.gl_segments.specs.bodies.Tables.{Sources, steps_of_thread, Has, IsSound, LeadsTo};
+ghost use Rattle.gl_segments.specs.bodies.Tables.{Sources, steps_of_thread, Has, IsSound};
 
 use crate::clock::Clock;
 use crate::forked::Spawn;
