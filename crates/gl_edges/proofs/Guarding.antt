@@ -1,5 +1,5 @@
 -- Ascending lists under a total order: the ascending list of a list that ascends is itself, and lists with the same members have the same one.
-use Rattle.std.proofs.Common.{◌≡◌, ℕ, Bool, true, false, eqb, List, [], ◌∷◌, map, Option, Some, None, refl, sym, ap, subst, cond, ◌∙◌}
+use Rattle.std.proofs.Common.{◌≡◌, ℕ, ◌+◌, ◌≤◌, Bool, true, false, eqb, List, [], ◌∷◌, length, map, Option, Some, None, refl, sym, ap, subst, cond, ◌∙◌, arith}
 use Rattle.std.specs.Prelude.{◌||◌, Contains, is_some}
 use Rattle.std.specs.Cmp.{IsTotalOrder, nat_cmp_total, nat_eq_equiv, tied_itself, unsigned_tied}
 use Rattle.std.specs.FinMap as fin
@@ -10,12 +10,13 @@ use Rattle.std.specs.List.Sorted.{IsStrictlySortedBy, IsPermutation, IsSorted}
 use Rattle.std.specs.Ordering.{nat_cmp, eq_by_cmp, is_eq}
 use Rattle.std.specs.declared.cmp.Ordering.{Ordering}
 use Rattle.std.specs.declared.cmp.Ordering.TheVariants.{Less, Equal, Greater}
-use Rattle.std.proofs.lemmas.List.{nil_from_length}
+use Rattle.std.proofs.lemmas.List.{length-map, nil_from_length}
 use Rattle.std.proofs.lemmas.List.Folds.{list_any-from_Any, Any-from_list_any}
 use Rattle.std.proofs.lemmas.List.Kept.{IsStrictlySortedBy-dedup, Contains-dedup, Contains-from_dedup}
 use Rattle.std.proofs.lemmas.List.Sorted.{Contains-permutation, IsPermutation-sym}
 use Rattle.gl_event.specs.Events.{ascending}
-use Rattle.gl_edges.specs.Guards.{guard_cmp, guard_eq, guard_equiv, guard_ties, guard_total, ascending_guards}
+use Rattle.gl_event.specs.declared.held.HeldEntry.{HeldEntry}
+use Rattle.gl_edges.specs.Guards.{guard_cmp, guard_eq, guard_equiv, guard_ties, guard_total, ascending_guards, guard_of, guards_of}
 use Rattle.gl_edges.specs.declared.guards.Guard.{Guard}
 use Rattle.gl_edges.proofs.Orders.{guard_cmp_exact}
 
@@ -69,6 +70,29 @@ module _ {K : Type 0} (R : K → K → Ordering) (total : IsTotalOrder R) where
   -- the ascending list of an ascending list is itself
   pub sorted_stays : (xs : List K) → IsStrictlySortedBy R xs → ascending_by xs ≡ xs
   sorted_stays xs sorted = ap (map (λ e. e.0)) (entries_of xs sorted) ∙ keys_marked xs
+
+  -- the map has no more entries than were put in
+  one_more : (b : Bool) (n m : ℕ) → n ≤ m → cond b n (n + 1) ≤ m + 1
+  one_more true n m few = omega arith
+  one_more false n m few = omega arith
+
+  set_few : (es : List (K × Unit {0})) → fin.len (fin.from_entries {R = R} es) ≤ length es
+  set_few [] = subst (λ n. n ≤ 0) (sym (fin.len-empty R (Unit {0}))) (omega arith)
+  set_few (e ∷ es) =
+      let known = fin.from_entries {R = R} es in
+      let more = fin.len-insert total known e.0 e.1 in
+      let few = one_more (fin.contains_key known e.0) (fin.len known) (length es) (set_few es) in
+      let all : fin.len (fin.insert known e.0 e.1) ≤ length (e ∷ es) = omega (arith, more, few) in
+      all
+
+  -- the ascending list isn't longer
+  pub ascending_few : (xs : List K) → length (ascending_by xs) ≤ length xs
+  ascending_few xs =
+      let few = set_few (marked xs) in
+      let put_in = length-map {B = K × Unit {0}} xs (λ x. (x, tt {0})) in
+      let listed = length-map (fin.entries (set_of xs)) (λ e. e.0) in
+      let counted = fin.len-entries (set_of xs) in
+      omega (arith, few, put_in, listed, counted)
 
   -- the set has what the list has
   set_has : (xs : List K) (q : K) → fin.contains_key (set_of xs) q ≡ list_any (eq_by_cmp R q) xs
@@ -124,6 +148,13 @@ dedup_ascends gs sorted = IsStrictlySortedBy-dedup guard_total guard_ties gs sor
 -- guards that are counted as the same are
 same_guard : (a b : Guard) → guard_eq a b ≡ true → a ≡ b
 same_guard a b same = guard_cmp_exact a b (tie (guard_cmp a b) (sym (guard_ties a b) ∙ same))
+
+-- there are no more guards than held locks
+pub guards_few : (hs : List HeldEntry) → length (guards_of hs) ≤ length hs
+guards_few hs =
+    let few = ascending_few guard_cmp guard_total (map guard_of hs) in
+    let each = length-map hs guard_of in
+    omega (arith, few, each)
 
 -- they are the ascending list of the guards
 pub dedup_is_ascending : (xs ys : List Guard) → IsPermutation xs ys → IsSorted guard_cmp ys → dedup guard_eq ys ≡ ascending_guards xs

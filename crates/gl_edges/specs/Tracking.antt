@@ -1,8 +1,11 @@
 -- A thread that is followed event by event.
-use Rattle.std.specs.Prelude.{◌≡◌, ℕ, List, [], ◌∷◌, ◌++◌}
+use Rattle.std.specs.Prelude.{◌≡◌, ◌≤◌, ℕ, ◌+◌, List, [], ◌∷◌, ◌++◌, length, vec_len, vec_capacity}
+use Rattle.std.specs.Global.{Vec}
 use Rattle.gl_event.specs.Bounds.{greatest}
 use Rattle.gl_event.specs.States.{State, StandsAfter, MayFollow}
 use Rattle.gl_event.specs.declared.events.Event.{Event}
+use Rattle.gl_edges.specs.declared.edge.Edge.{Edge}
+use Rattle.gl_edges.specs.declared.edge.Sample.{Sample}
 use Rattle.gl_edges.specs.declared.tracker.Tracker.{Tracker}
 
 -- the tracker is of this thread, and knows what is known of it after these events
@@ -29,3 +32,8 @@ HasAdvanced before event after =
 -- the tracker may be given this event next, under the greatest limits
 abbrev pub IsNextFor : Tracker → Event → Type 0
 IsNextFor tracker event = MayFollow greatest tracker.thread tracker.state event
+
+-- at most two locks are held, and the edges made have room for one more from each: to add them takes no memory
+abbrev pub HaveRoom : State → Vec (Edge × Sample) → Type 0
+HaveRoom s made =
+    (length s.held ≤ 2) × (vec_len made + length s.held ≤ vec_capacity made)

@@ -1,5 +1,5 @@
 //! Edges of the lock-order graph, and where each was seen first.
-ghost use Rattle.std.specs.Prelude.{◌≡◌, IfOk};
+ghost use Rattle.std.specs.Prelude.{◌≡◌, ◌≤◌, length, IsOk, IfOk};
 
 use crate::guards::Guards;
 use gl_event::{LocId, LockId, LockMode, Memory, ThreadId};
@@ -29,9 +29,10 @@ pub struct Edge {
 }
 
 impl Edge {
-    /// The same edge once more, or that there is no memory for its guards.
+    /// The same edge once more, or that there is no memory for its guards. Up to two guards take none.
     pub fn copy(&self, alloc: Global) -> Result<Edge, Memory>
-        ensures { IfOk result (λ e. e ≡ self.now) }
+        ensures same { IfOk result (λ e. e ≡ self.now) }
+        ensures in_place { length self.now.guards ≤ 2 → IsOk result }
     {
         let guards = self.guards.copy(alloc)?;
         Ok(Edge { guards, ..*self })

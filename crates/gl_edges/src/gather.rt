@@ -1,10 +1,9 @@
 //! The edges of whole lists of events.
-ghost use Rattle.std.specs.Prelude.{◌≡◌, ◌≤◌, ◌+◌, ℕ, List, [], ◌∷◌, ◌++◌, map, length, slice_get, Some, OnOk, IfOk};
+ghost use Rattle.std.specs.Prelude.{◌≡◌, ◌≤◌, ◌+◌, ℕ, List, map, length, slice_get, Some, OnOk, IfOk};
 ghost use Rattle.gl_event.specs.Bounds.{greatest};
-ghost use Rattle.gl_event.specs.Events.{depth};
 ghost use Rattle.gl_event.specs.Lawful.{AreLawful, IsLawful, lists_of};
 ghost use Rattle.gl_event.specs.declared.events.Event.{Event};
-ghost use Rattle.gl_edges.specs.Edges.{edges_wanting, edges_after, edges_of_list, edges_made_from, once, edges};
+ghost use Rattle.gl_edges.specs.Edges.{edges_after, edges_of_list, edges_made_from, once, edges};
 ghost use Rattle.gl_edges.specs.bodies.Gatherers.{HasGathered, pair_for};
 ghost use Rattle.gl_edges.specs.bodies.Tables.{HasAdded};
 ghost use Rattle.gl_edges.specs.Tracking.{ForEachFollowed, HasAdvanced, IsNextFor};

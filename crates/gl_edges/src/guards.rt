@@ -1,5 +1,5 @@
 //! Sets of locks, each in a mode.
-ghost use Rattle.std.specs.Prelude.{◌≡◌, ◌<◌, List, [], length, map, refl, IsOk, IfOk, OnOk};
+ghost use Rattle.std.specs.Prelude.{◌≡◌, ◌<◌, ◌≤◌, List, [], length, map, refl, IsOk, IfOk, OnOk};
 ghost use Rattle.std.specs.Cmp.{partial_equiv_from_equiv, po};
 ghost use Rattle.std.specs.Cmp.Lexicographic.{pointwise, slice_cmp, lists_equiv, lists_ties, lists_total};
 ghost use Rattle.std.specs.List.Sorted.{IsStrictlySortedBy};
@@ -73,9 +73,11 @@ impl Guards {
         }
     }
 
-    /// Becomes the set of these held locks. A set that had as many locks before takes no memory.
+    /// Becomes the set of these held locks. A set that had as many locks before takes no memory, nor do
+    /// up to two locks.
     pub(crate) fn refill(&mut self, entries: &[HeldEntry]) -> Result<(), Memory>
-        ensures { OnOk result (self.new ≡ guards_of entries.now) }
+        ensures guards { OnOk result (self.new ≡ guards_of entries.now) }
+        ensures in_place { length entries.now ≤ 2 → IsOk result }
     {
         match fill(&mut self.locks, entries) {
             Ok(()) => Ok(()),
@@ -86,9 +88,10 @@ impl Guards {
         }
     }
 
-    /// The same locks once more, or that there is no memory for them.
+    /// The same locks once more, or that there is no memory for them. Up to two take none.
     pub(crate) fn copy(&self, alloc: Global) -> Result<Guards, Memory>
-        ensures { IfOk result (λ g. g ≡ self.now) }
+        ensures same { IfOk result (λ g. g ≡ self.now) }
+        ensures in_place { length self.now ≤ 2 → IsOk result }
     {
         let locks = SmallVec::from_slice(alloc, self.locks.as_slice())?;
         Ok(Guards { locks })
@@ -107,14 +110,17 @@ impl Guards {
 fn fill(locks: &mut SmallVec<Guard, INLINE>, entries: &[HeldEntry]) -> Result<(), Memory>
     ensures ascending { OnOk result (IsStrictlySortedBy guard_cmp locks.new.items) }
     ensures guards { OnOk result (locks.new.items ≡ guards_of entries.now) }
+    ensures in_place { length entries.now ≤ 2 → IsOk result }
 {
     locks.clear();
+    // Tells the proof that two locks fit without memory.
+    let _ = locks.capacity();
     locks.reserve(entries.len())?;
     for entry in entries {
-        locks.push(Guard {
+        locks.push_reserved(Guard {
             lock: entry.lock,
             mode: entry.mode,
-        })?;
+        });
     }
     locks.sort_unstable();
     locks.dedup();

@@ -1,10 +1,10 @@
 //! A thread that is followed event by event.
-ghost use Rattle.std.specs.Prelude.{◌≡◌, ◌≢◌, [], ◌∷◌, ◌++◌, map, take, length, Contains, Any, IfOk, OnOk, OnErr};
+ghost use Rattle.std.specs.Prelude.{◌≡◌, ◌≢◌, [], ◌∷◌, ◌++◌, map, take, length, Contains, Any, IsOk, IfOk, OnOk, OnErr};
 ghost use Rattle.gl_event.specs.Events as events;
 ghost use Rattle.gl_edges.specs.Edges.{edges_at, edges_after, pair_at};
 ghost use Rattle.gl_edges.specs.Guards.{guards_of};
 ghost use Rattle.gl_edges.specs.Order.{AreAscending};
-ghost use Rattle.gl_edges.specs.Tracking.{Follows, ForEachFollowed, ForEachStanding, HasAdvanced, IsNextFor};
+ghost use Rattle.gl_edges.specs.Tracking.{Follows, ForEachFollowed, ForEachStanding, HasAdvanced, HaveRoom, IsNextFor};
 
 use crate::edge::{Edge, Sample};
 use crate::guards::Guards;
@@ -97,7 +97,7 @@ pub fn next_edges(
 
 /// Adds the edges that the event would make as the next one of the thread of which this is known,
 /// ascending, to those made. Where there is no memory those made are as they were. Where the event makes
-/// none no memory is taken.
+/// none no memory is taken, nor where at most two locks are held and those made have room for as many more.
 ///
 /// An acquire takes a step for each pair of locks that are held.
 pub fn add_next_edges(
@@ -113,6 +113,7 @@ pub fn add_next_edges(
     ensures unchanged { OnErr result (made.new.items ≡ made.old.items) }
     ensures room { ForEachStanding state.now
         (λ es. OnErr result (edges_after thread es event.now ≢ [])) }
+    ensures in_place { HaveRoom state.now made.old → IsOk result }
 {
     let Some(wanted) = event.wanted() else {
         return Ok(());
@@ -154,6 +155,7 @@ fn push_edges(
         ≡ made.old.items ++ map (pair_at thread es wanted mode loc) (events.held es))) }
     ensures kept { take (length made.old.items) made.new.items ≡ made.old.items }
     ensures room { OnErr result (state.now.held ≢ []) }
+    ensures in_place { HaveRoom state.now made.old → IsOk result }
 {
     let entries = state.entries();
     if entries.is_empty() {
@@ -168,9 +170,9 @@ fn push_edges(
     let last_lock = last.lock;
     for guard in others {
         let copy = guards.copy(alloc)?;
-        made.push(pair_to(thread, state, guard.lock, copy, wanted, mode, loc))?;
+        made.push_reserved(pair_to(thread, state, guard.lock, copy, wanted, mode, loc));
     }
-    made.push(pair_to(thread, state, last_lock, guards, wanted, mode, loc))?;
+    made.push_reserved(pair_to(thread, state, last_lock, guards, wanted, mode, loc));
     Ok(())
 }
 

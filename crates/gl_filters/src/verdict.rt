@@ -1,8 +1,8 @@
 //! What a list of edges is, as a cycle.
-ghost use Rattle.std.specs.Prelude.{◌≡◌, ◌<◌, ◌≤◌, ℕ, Some, length, slice_get, All, MatchOption, true};
+ghost use Rattle.std.specs.Prelude.{◌≡◌, ◌<◌, ◌≤◌, ℕ, Some, length, slice_get, MatchOption, true};
 ghost use Rattle.gl_segments.specs.Clocks.{is_before};
 ghost use Rattle.gl_edges.specs.declared.edge.Edge.{Edge};
-ghost use Rattle.gl_filters.specs.Picked.{edges_of_table, picked};
+ghost use Rattle.gl_filters.specs.Picked.{edges_picked, AreWithin};
 ghost use Rattle.gl_filters.specs.Verdicts.{have_gate_lock, IsFree, IsFirstAfter, NoPair, IsFirstPair, following, IsClosedAt, IsFirstOpen, IsNotLesserAt, IsFirstLesser, IsVerdict, IsLeastShared};
 ghost use Rattle.gl_filters.specs.bodies.Clashing.{clashes};
 ghost use Rattle.gl_filters.specs.Cycle.{HasGate};
@@ -52,9 +52,9 @@ enum Clash {
 
 // The edge at a place of the list of positions.
 fn edge_at<'a>(table: &'a [(Edge, Sample)], cycle: &[usize], i: usize) -> &'a Edge
-    requires within { All (λ p. p < length table.now) cycle.now }
+    requires within { AreWithin table.now cycle.now }
     requires there { i < length cycle.now }
-    ensures { slice_get (picked (edges_of_table table.now) cycle.now) i ≡ Some result.now }
+    ensures { slice_get (edges_picked table.now cycle.now) i ≡ Some result.now }
 {
     &table[cycle[i]].0
 }
@@ -79,14 +79,13 @@ fn first_after(
     cycle: &[usize],
     i: usize,
 ) -> Option<usize>
-    requires within { All (λ p. p < length table.now) cycle.now }
+    requires within { AreWithin table.now cycle.now }
     requires there { i < length cycle.now }
     ensures { MatchOption result
-        (IsFree (clashes (is_before order.now) clash)
-        (picked (edges_of_table table.now) cycle.now) i
-        (length (picked (edges_of_table table.now) cycle.now)))
+        (IsFree (clashes (is_before order.now) clash) (edges_picked table.now cycle.now) i
+        (length (edges_picked table.now cycle.now)))
         (λ j. IsFirstAfter (clashes (is_before order.now) clash)
-        (picked (edges_of_table table.now) cycle.now) i j) }
+        (edges_picked table.now cycle.now) i j) }
 {
     let one = edge_at(table, cycle, i);
     for j in i + 1..cycle.len() {
@@ -105,11 +104,11 @@ fn first_pair(
     table: &[(Edge, Sample)],
     cycle: &[usize],
 ) -> Option<(usize, usize)>
-    requires within { All (λ p. p < length table.now) cycle.now }
+    requires within { AreWithin table.now cycle.now }
     ensures { MatchOption result
-        (NoPair (clashes (is_before order.now) clash) (picked (edges_of_table table.now) cycle.now))
+        (NoPair (clashes (is_before order.now) clash) (edges_picked table.now cycle.now))
         (λ places. IsFirstPair (clashes (is_before order.now) clash)
-        (picked (edges_of_table table.now) cycle.now) places.0 places.1) }
+        (edges_picked table.now cycle.now) places.0 places.1) }
 {
     for i in 0..cycle.len() {
         if let Some(j) = first_after(clash, order, table, cycle, i) {
@@ -133,11 +132,11 @@ fn next_place(i: usize, count: usize) -> usize
 
 // The first place whose edge doesn't lead on to the next one, round.
 fn first_open(table: &[(Edge, Sample)], cycle: &[usize]) -> Option<usize>
-    requires within { All (λ p. p < length table.now) cycle.now }
+    requires within { AreWithin table.now cycle.now }
     ensures { MatchOption result
-        ((i : ℕ) → i < length (picked (edges_of_table table.now) cycle.now)
-        → IsClosedAt (picked (edges_of_table table.now) cycle.now) i)
-        (λ i. IsFirstOpen (picked (edges_of_table table.now) cycle.now) i) }
+        ((i : ℕ) → i < length (edges_picked table.now cycle.now)
+        → IsClosedAt (edges_picked table.now cycle.now) i)
+        (λ i. IsFirstOpen (edges_picked table.now cycle.now) i) }
 {
     for i in 0..cycle.len() {
         let next = next_place(i, cycle.len());
@@ -150,12 +149,12 @@ fn first_open(table: &[(Edge, Sample)], cycle: &[usize]) -> Option<usize>
 
 // The first place whose edge has a lesser thread than the first edge.
 fn first_lesser(table: &[(Edge, Sample)], cycle: &[usize]) -> Option<usize>
-    requires within { All (λ p. p < length table.now) cycle.now }
+    requires within { AreWithin table.now cycle.now }
     requires some { 0 < length cycle.now }
     ensures { MatchOption result
-        ((i : ℕ) → i < length (picked (edges_of_table table.now) cycle.now)
-        → IsNotLesserAt (picked (edges_of_table table.now) cycle.now) i)
-        (λ i. IsFirstLesser (picked (edges_of_table table.now) cycle.now) i) }
+        ((i : ℕ) → i < length (edges_picked table.now cycle.now)
+        → IsNotLesserAt (edges_picked table.now cycle.now) i)
+        (λ i. IsFirstLesser (edges_picked table.now cycle.now) i) }
 {
     let first = edge_at(table, cycle, 0);
     for i in 0..cycle.len() {
@@ -174,14 +173,13 @@ fn first_pair_where(
     table: &[(Edge, Sample)],
     cycle: &[usize],
 ) -> Option<(usize, usize)>
-    requires within { All (λ p. p < length table.now) cycle.now }
+    requires within { AreWithin table.now cycle.now }
     ensures { MatchOption result
         (asked ≡ true
-        → NoPair (clashes (is_before order.now) clash)
-        (picked (edges_of_table table.now) cycle.now))
+        → NoPair (clashes (is_before order.now) clash) (edges_picked table.now cycle.now))
         (λ places. (asked ≡ true)
         × IsFirstPair (clashes (is_before order.now) clash)
-        (picked (edges_of_table table.now) cycle.now) places.0 places.1) }
+        (edges_picked table.now cycle.now) places.0 places.1) }
 {
     if !asked {
         return None;
@@ -206,9 +204,9 @@ fn gate_lock(guards: &[Guard], others: &[Guard]) -> LockId
 
 // The least lock that is a gate of the edges at both places.
 fn guard_at(table: &[(Edge, Sample)], cycle: &[usize], i: usize, j: usize) -> LockId
-    requires within { All (λ p. p < length table.now) cycle.now }
-    requires clash { IsFirstAfter have_gate_lock (picked (edges_of_table table.now) cycle.now) i j }
-    ensures { IsLeastShared (picked (edges_of_table table.now) cycle.now) i j result }
+    requires within { AreWithin table.now cycle.now }
+    requires clash { IsFirstAfter have_gate_lock (edges_picked table.now cycle.now) i j }
+    ensures { IsLeastShared (edges_picked table.now cycle.now) i j result }
 {
     let one = edge_at(table, cycle, i);
     let other = edge_at(table, cycle, j);
@@ -217,9 +215,8 @@ fn guard_at(table: &[(Edge, Sample)], cycle: &[usize], i: usize, j: usize) -> Lo
 
 // What the edges at these positions are, as a cycle that the query asks for.
 fn verdict_of(query: &Query, order: &Order, table: &[(Edge, Sample)], cycle: &[usize]) -> Verdict
-    requires { All (λ p. p < length table.now) cycle.now }
-    ensures { IsVerdict (is_before order.now) query.now
-        (picked (edges_of_table table.now) cycle.now) result }
+    requires { AreWithin table.now cycle.now }
+    ensures { IsVerdict (is_before order.now) query.now (edges_picked table.now cycle.now) result }
 {
     if cycle.len() < 2 {
         return Verdict::TooShort;
@@ -256,9 +253,8 @@ fn verdict_of(query: &Query, order: &Order, table: &[(Edge, Sample)], cycle: &[u
 /// first one is named, then the second one after it, then the least lock. Takes time as there are
 /// pairs of edges, and no memory.
 pub fn judge(query: &Query, order: &Order, edges: &EdgeList, cycle: &[usize]) -> Verdict
-    requires { All (λ p. p < length edges.now) cycle.now }
-    ensures { IsVerdict (is_before order.now) query.now
-        (picked (edges_of_table edges.now) cycle.now) result }
+    requires { AreWithin edges.now cycle.now }
+    ensures { IsVerdict (is_before order.now) query.now (edges_picked edges.now cycle.now) result }
 {
     verdict_of(query, order, edges.entries(), cycle)
 }

@@ -3,10 +3,10 @@
 //! Along a thread, what is before its segments only grows, and most of its segments add nothing to
 //! it. So a clock is kept for the first segment alone, and then each growth: from which segment on
 //! how many segments of which thread are before.
-ghost use Rattle.std.specs.Prelude.{◌≡◌, ℕ, ◌+◌, ◌<◌, ◌≤◌, ◌^◌, List, [], ◌∷◌, ◌++◌, length, max, slice_get, slice_index, slice_index_or, slice_set, Some, IfOk, OnOk};
+ghost use Rattle.std.specs.Prelude.{◌≡◌, ℕ, ◌+◌, ◌<◌, ◌^◌, List, [], ◌∷◌, ◌++◌, length, max, slice_get, slice_index, slice_index_or, slice_set, Some, IfOk, OnOk};
 ghost use Rattle.std.specs.List.Sorted.{IsNonDecreasingBy};
 ghost use Rattle.gl_segments.specs.declared.growths.Growth.{Growth};
-ghost use Rattle.gl_segments.specs.bodies.Histories.{count_at, AreOrdered, IsNoted};
+ghost use Rattle.gl_segments.specs.bodies.Histories.{count_at, AddsNoClock, AreOrdered, IsNoted, KeepsClocks};
 ghost use Rattle.gl_segments.specs.bodies.Search.{IsAmong, GrowsBy};
 ghost use Rattle.gl_segments.specs.bodies.Merging.{IsMerged, IsReached};
 
@@ -167,8 +167,7 @@ impl Growing {
         requires width { length clock.now ≡ length self.old.latest }
         requires among { IsAmong found.now (length clock.now) }
         requires grown { 0 < self.old.segments → GrowsBy self.old.latest found.now clock.now }
-        ensures thread { self.new.thread ≡ self.old.thread }
-        ensures segments { self.new.segments ≡ self.old.segments }
+        ensures still { AddsNoClock self.old self.new }
         ensures latest { OnOk result (self.new.latest ≡ clock.now) }
         ensures noted { OnOk result
             ((clocks : List (List ℕ)) → IsNoted self.old clocks → IsNoted self.new clocks) }
@@ -181,8 +180,7 @@ impl Growing {
 
     // Keeps the first clock.
     fn begin(&mut self, alloc: Global, clock: &Clock) -> Result<(), AllocError>
-        ensures thread { self.new.thread ≡ self.old.thread }
-        ensures segments { self.new.segments ≡ self.old.segments }
+        ensures still { AddsNoClock self.old self.new }
         ensures latest { OnOk result (self.new.latest ≡ clock.now) }
         ensures noted { OnOk result
             ((clocks : List (List ℕ)) → length clocks ≡ 0 → IsNoted self.old clocks
@@ -198,12 +196,9 @@ impl Growing {
         requires width { length clock.now ≡ length self.old.latest }
         requires among { IsAmong found.now (length clock.now) }
         requires grown { GrowsBy self.old.latest found.now clock.now }
-        ensures thread { self.new.thread ≡ self.old.thread }
-        ensures segments { self.new.segments ≡ self.old.segments }
+        ensures still { AddsNoClock self.old self.new }
         ensures latest { OnOk result (self.new.latest ≡ clock.now) }
-        ensures noted { OnOk result
-            ((clocks : List (List ℕ)) → 0 < length clocks → IsNoted self.old clocks
-            → IsNoted self.new clocks) }
+        ensures noted { OnOk result (KeepsClocks self.old self.new) }
     {
         for link in found {
             let thread = link.segment.thread;
@@ -215,12 +210,9 @@ impl Growing {
     /// Notes the next count of a thread.
     pub fn note_count(&mut self, thread: ThreadId, count: u32) -> Result<(), AllocError>
         requires { thread < length self.old.latest }
-        ensures thread { self.new.thread ≡ self.old.thread }
-        ensures segments { self.new.segments ≡ self.old.segments }
+        ensures still { AddsNoClock self.old self.new }
         ensures latest { OnOk result (self.new.latest ≡ slice_set self.old.latest thread count) }
-        ensures noted { OnOk result
-            ((clocks : List (List ℕ)) → 0 < length clocks → IsNoted self.old clocks
-            → IsNoted self.new clocks) }
+        ensures noted { OnOk result (KeepsClocks self.old self.new) }
     {
         if self.latest.ahead(thread) == count {
             return Ok(());
@@ -240,14 +232,11 @@ impl Growing {
     /// Notes the next count of a thread, where it is greater than the latest one.
     pub fn raise(&mut self, thread: ThreadId, count: u32) -> Result<(), AllocError>
         requires { thread < length self.old.latest }
-        ensures thread { self.new.thread ≡ self.old.thread }
-        ensures segments { self.new.segments ≡ self.old.segments }
+        ensures still { AddsNoClock self.old self.new }
         ensures latest { OnOk result
             (self.new.latest ≡ slice_set self.old.latest thread
             (max (slice_index self.old.latest thread) count)) }
-        ensures noted { OnOk result
-            ((clocks : List (List ℕ)) → 0 < length clocks → IsNoted self.old clocks
-            → IsNoted self.new clocks) }
+        ensures noted { OnOk result (KeepsClocks self.old self.new) }
     {
         if count <= self.latest.ahead(thread) {
             return Ok(());
@@ -259,14 +248,11 @@ impl Growing {
     /// is kept of that one, and asks for the clock's count only where it may be the greater one.
     pub fn merge(&mut self, other: &History, index: u32) -> Result<(), AllocError>
         requires { length self.old.latest < 2 ^ 32 }
-        ensures thread { self.new.thread ≡ self.old.thread }
-        ensures segments { self.new.segments ≡ self.old.segments }
+        ensures still { AddsNoClock self.old self.new }
         ensures latest { OnOk result
             (IsMerged self.old.latest (slice_index_or other.now index []) self.new.latest
             (length self.old.latest)) }
-        ensures noted { OnOk result
-            ((clocks : List (List ℕ)) → 0 < length clocks → IsNoted self.old clocks
-            → IsNoted self.new clocks) }
+        ensures noted { OnOk result (KeepsClocks self.old self.new) }
     {
         self.reach(other, index, other.thread, index)?;
         self.reach_first(other, index, &other.first)?;
@@ -277,17 +263,14 @@ impl Growing {
     // The same for each thread that the other thread's first clock counts.
     fn reach_first(&mut self, other: &History, index: u32, first: &[u32]) -> Result<(), AllocError>
         requires { length self.old.latest < 2 ^ 32 }
-        ensures thread { self.new.thread ≡ self.old.thread }
-        ensures segments { self.new.segments ≡ self.old.segments }
+        ensures still { AddsNoClock self.old self.new }
         ensures latest { OnOk result
             (IsMerged self.old.latest (slice_index_or other.now index []) self.new.latest 0) }
         ensures reached { OnOk result
             ((k : ℕ) → k < length first.now
             → IsReached (slice_index_or other.now index []) self.new.latest k
             (slice_index first.now k)) }
-        ensures noted { OnOk result
-            ((clocks : List (List ℕ)) → 0 < length clocks → IsNoted self.old clocks
-            → IsNoted self.new clocks) }
+        ensures noted { OnOk result (KeepsClocks self.old self.new) }
     {
         let threads = first.len().min(self.latest.threads());
         for place in 0..threads {
@@ -304,16 +287,13 @@ impl Growing {
         index: u32,
         growths: &Growths,
     ) -> Result<(), AllocError>
-        ensures thread { self.new.thread ≡ self.old.thread }
-        ensures segments { self.new.segments ≡ self.old.segments }
+        ensures still { AddsNoClock self.old self.new }
         ensures latest { OnOk result
             (IsMerged self.old.latest (slice_index_or other.now index []) self.new.latest 0) }
         ensures reached { OnOk result
             ((p : ℕ) (g : Growth) → slice_get growths.now p ≡ Some g
             → IsReached (slice_index_or other.now index []) self.new.latest g.thread g.count) }
-        ensures noted { OnOk result
-            ((clocks : List (List ℕ)) → 0 < length clocks → IsNoted self.old clocks
-            → IsNoted self.new clocks) }
+        ensures noted { OnOk result (KeepsClocks self.old self.new) }
     {
         for at in 0..growths.len() {
             let growth = growths.get(at);
@@ -330,15 +310,12 @@ impl Growing {
         thread: ThreadId,
         count: u32,
     ) -> Result<(), AllocError>
-        ensures thread { self.new.thread ≡ self.old.thread }
-        ensures segments { self.new.segments ≡ self.old.segments }
+        ensures still { AddsNoClock self.old self.new }
         ensures latest { OnOk result
             (IsMerged self.old.latest (slice_index_or other.now index []) self.new.latest 0) }
         ensures reached { OnOk result
             (IsReached (slice_index_or other.now index []) self.new.latest thread count) }
-        ensures noted { OnOk result
-            ((clocks : List (List ℕ)) → 0 < length clocks → IsNoted self.old clocks
-            → IsNoted self.new clocks) }
+        ensures noted { OnOk result (KeepsClocks self.old self.new) }
     {
         if count <= self.latest.ahead(thread) {
             return Ok(());

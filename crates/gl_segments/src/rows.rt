@@ -1,8 +1,8 @@
 //! What a sweep over the steps knows of each thread.
-ghost use Rattle.std.specs.Prelude.{◌≡◌, ℕ, ◌+◌, ◌<◌, ◌≤◌, ◌^◌, List, [], length, slice_index_or, slice_set, IfOk, OnOk};
+ghost use Rattle.std.specs.Prelude.{◌≡◌, ◌+◌, ◌<◌, ◌≤◌, ◌^◌, [], length, slice_get, slice_index_or, slice_set, Some, IfOk, OnOk};
 ghost use Rattle.gl_event.specs.declared.events.Segment.{Segment};
 ghost use Rattle.gl_segments.specs.bodies.Fronts.{first_of};
-ghost use Rattle.gl_segments.specs.bodies.Histories.{IsNoted};
+ghost use Rattle.gl_segments.specs.bodies.Histories.{AddsNoClock, KeepsClocks};
 ghost use Rattle.gl_segments.specs.bodies.Merging.{raised_to, IsMerged};
 ghost use Rattle.gl_segments.specs.bodies.Rows.{AreClocksTo};
 ghost use Rattle.gl_segments.specs.bodies.Search.{Counts, IsClockOf};
@@ -67,7 +67,7 @@ impl Rows {
     pub fn take(&mut self, alloc: Global, thread: ThreadId) -> Row
         requires { thread < length self.old }
         ensures size { length self.new ≡ length self.old }
-        ensures row { (steps : Sources) → HaveRows steps self.old → IsRow steps thread result }
+        ensures taken { slice_get self.old thread ≡ Some result }
         ensures rows { (steps : Sources) → HaveRows steps self.old → HaveRows steps self.new }
     {
         let nothing = Row::Waiting(Vec::new(alloc));
@@ -78,6 +78,7 @@ impl Rows {
     pub fn put(&mut self, thread: ThreadId, row: Row)
         requires { thread < length self.old }
         ensures size { length self.new ≡ length self.old }
+        ensures set { self.new ≡ slice_set self.old thread row }
         ensures rows { (steps : Sources) → IsRow steps thread row → HaveRows steps self.old
             → HaveRows steps self.new }
     {
@@ -95,15 +96,12 @@ impl Rows {
         requires width { length growing.old.latest < 2 ^ 32 }
         requires within { source.thread < length growing.old.latest }
         requires small { source.index + 1 < 2 ^ 32 }
-        ensures thread { growing.new.thread ≡ growing.old.thread }
-        ensures segments { growing.new.segments ≡ growing.old.segments }
+        ensures still { AddsNoClock growing.old growing.new }
         ensures part { OnOk result
             ((steps : Sources) (target : Segment) → IsSound steps → HaveRows steps self.now
             → LeadsTo steps source target → IsPart steps growing.old.latest target
             → IsPart steps growing.new.latest target) }
-        ensures noted { OnOk result
-            ((clocks : List (List ℕ)) → 0 < length clocks → IsNoted growing.old clocks
-            → IsNoted growing.new clocks) }
+        ensures noted { OnOk result (KeepsClocks growing.old growing.new) }
     {
         match self.rows.get(source.thread.number() as usize) {
             Some(Row::Ended(history)) => {
@@ -166,15 +164,12 @@ fn joined(growing: &mut Growing, history: &History, source: Segment) -> Result<(
     requires width { length growing.old.latest < 2 ^ 32 }
     requires within { source.thread < length growing.old.latest }
     requires small { source.index + 1 < 2 ^ 32 }
-    ensures thread { growing.new.thread ≡ growing.old.thread }
-    ensures segments { growing.new.segments ≡ growing.old.segments }
+    ensures still { AddsNoClock growing.old growing.new }
     ensures latest { OnOk result
         (IsMerged (raised_to growing.old.latest source)
         (slice_index_or history.now source.index []) growing.new.latest
         (length growing.old.latest)) }
-    ensures noted { OnOk result
-        ((clocks : List (List ℕ)) → 0 < length clocks → IsNoted growing.old clocks
-        → IsNoted growing.new clocks) }
+    ensures noted { OnOk result (KeepsClocks growing.old growing.new) }
 {
     growing.raise(source.thread, source.index + 1)?;
     growing.merge(history, source.index)

@@ -5,13 +5,13 @@
 //! segments wait for each other, and then some segment is before itself. Of this nothing is proved: a
 //! clock is taken only where it counts all that is one step before its segment, and not the segment
 //! itself.
-ghost use Rattle.std.specs.Prelude.{◌≡◌, ℕ, ◌+◌, ◌<◌, ◌≤◌, ◌^◌, List, None, length, Contains, IfOk, IfSome, OnOk};
+ghost use Rattle.std.specs.Prelude.{◌≡◌, ◌+◌, ◌<◌, None, length, IfOk, OnOk};
 ghost use Rattle.gl_segments.specs.bodies.Fronts.{first_of, AreStarting, IsFront};
-ghost use Rattle.gl_segments.specs.bodies.Histories.{IsNoted};
+ghost use Rattle.gl_segments.specs.bodies.Histories.{AddsNoClock, KeepsClocks};
 ghost use Rattle.gl_segments.specs.bodies.Rows.{AreClocksTo};
 ghost use Rattle.gl_segments.specs.bodies.Search.{Counts, IsClockOf, CountsSources};
-ghost use Rattle.gl_segments.specs.bodies.Sweeps.{AreSwept, CountsAll, HaveRows, IsGrowing, IsPart};
-ghost use Rattle.gl_segments.specs.bodies.Tables.{Sources, steps_of_thread, Has, IsSound, LeadsTo};
+ghost use Rattle.gl_segments.specs.bodies.Sweeps.{AreSwept, CanSweep, CountsAll, HaveRows, IsGrowing, IsPart};
+ghost use Rattle.gl_segments.specs.bodies.Tables.{Sources, steps_of_thread, Has, IsSound};
 
 use crate::clock::Clock;
 use crate::forked::Spawn;
@@ -92,8 +92,7 @@ impl Sweep {
         thread: ThreadId,
         limit: usize,
     ) -> Result<(), Halt>
-        requires sound { IsSound steps.now }
-        requires swept { AreSwept steps.now self.old }
+        requires sweeps { CanSweep steps.now self.old }
         ensures { OnOk result (AreSwept steps.now self.new) }
     {
         let mut waiting = Vec::new(alloc);
@@ -117,8 +116,7 @@ impl Sweep {
         steps: &Steps,
         thread: ThreadId,
     ) -> Result<Option<ThreadId>, Halt>
-        requires sound { IsSound steps.now }
-        requires swept { AreSwept steps.now self.old }
+        requires sweeps { CanSweep steps.now self.old }
         ensures { OnOk result (AreSwept steps.now self.new) }
     {
         if thread.number() as usize >= steps.threads() {
@@ -142,10 +140,9 @@ impl Sweep {
         thread: ThreadId,
         front: Vec<u32>,
     ) -> Result<Option<ThreadId>, Halt>
-        requires sound { IsSound steps.now }
+        requires sweeps { CanSweep steps.now self.old }
         requires within { thread < length steps.now }
         requires front { IsFront steps.now front.items (first_of thread) }
-        requires swept { AreSwept steps.now self.old }
         ensures { OnOk result (AreSwept steps.now self.new) }
     {
         let sources = steps.sources(Segment { thread, index: 0 });
@@ -166,10 +163,9 @@ impl Sweep {
         thread: ThreadId,
         growing: Growing,
     ) -> Result<Option<ThreadId>, Halt>
-        requires sound { IsSound steps.now }
+        requires sweeps { CanSweep steps.now self.old }
         requires within { thread < length steps.now }
         requires growing { IsGrowing steps.now thread growing }
-        requires swept { AreSwept steps.now self.old }
         ensures { OnOk result (AreSwept steps.now self.new) }
     {
         let mut growing = growing;
@@ -192,10 +188,9 @@ impl Sweep {
         thread: ThreadId,
         growing: &mut Growing,
     ) -> Result<Option<ThreadId>, Halt>
-        requires sound { IsSound steps.now }
+        requires sweeps { CanSweep steps.now self.old }
         requires has { growing.old.segments < length (steps_of_thread steps.now thread) }
         requires growing { IsGrowing steps.now thread growing.old }
-        requires swept { AreSwept steps.now self.old }
         ensures swept { OnOk result (AreSwept steps.now self.new) }
         ensures growing { OnOk result (IsGrowing steps.now thread growing.new) }
         ensures more { IfOk result
@@ -233,12 +228,11 @@ impl Sweep {
         index: u32,
         clock: &Clock,
     ) -> Result<(), AllocError>
-        requires sound { IsSound steps.now }
+        requires sweeps { CanSweep steps.now self.old }
         requires has { index < length (steps_of_thread steps.now thread) }
         requires width { length clock.now ≡ length steps.now }
         requires clock { IsClockOf steps.now clock.now (record { thread = thread; index = index }) }
         requires apart { ¬ Counts clock.now (record { thread = thread; index = index }) }
-        requires swept { AreSwept steps.now self.old }
         ensures { OnOk result (AreSwept steps.now self.new) }
     {
         let from = Segment { thread, index };
@@ -346,12 +340,9 @@ fn gather(steps: &Steps, rows: &Rows, growing: &mut Growing, at: Segment) -> Res
     requires has { Has steps.now at }
     requires part { IsPart steps.now growing.old.latest at }
     requires rows { HaveRows steps.now rows.now }
-    ensures thread { growing.new.thread ≡ growing.old.thread }
-    ensures segments { growing.new.segments ≡ growing.old.segments }
+    ensures still { AddsNoClock growing.old growing.new }
     ensures part { OnOk result (IsPart steps.now growing.new.latest at) }
-    ensures noted { OnOk result
-        ((clocks : List (List ℕ)) → 0 < length clocks → IsNoted growing.old clocks
-        → IsNoted growing.new clocks) }
+    ensures noted { OnOk result (KeepsClocks growing.old growing.new) }
 {
     for source in steps.sources(at) {
         if source.index >= growing.latest.ahead(source.thread) {

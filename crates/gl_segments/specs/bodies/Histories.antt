@@ -76,3 +76,15 @@ pub record IsNoted (g : Growing) (clocks : List (List ℕ)) : Type 0 where
   pub size : g.segments ≡ length clocks
   -- what was kept tells them
   pub tells : Tells g.thread g.first.items g.growths.items g.latest clocks
+
+-- the clocks that came, one or more, are the same still
+abbrev pub KeepsClocks : Growing → Growing → Type 0
+KeepsClocks before after =
+    (clocks : List (List ℕ)) → 0 < length clocks → IsNoted before clocks → IsNoted after clocks
+
+-- no clock came: it is the same thread, with as many clocks
+pub record AddsNoClock (before after : Growing) : Type 0 where
+  -- the thread is the same
+  pub thread : after.thread ≡ before.thread
+  -- and so is how many clocks came
+  pub segments : after.segments ≡ before.segments

@@ -10,7 +10,7 @@ use Rattle.gl_segments.specs.bodies.Fronts.{first_of, AreStarting, IsFront}
 use Rattle.gl_segments.specs.bodies.Histories.{IsNoted}
 use Rattle.gl_segments.specs.bodies.Rows.{AreClocksBelow, AreClocksOf}
 use Rattle.gl_segments.specs.bodies.Search.{Counts, IsClockOf, CountsSources}
-use Rattle.gl_segments.specs.bodies.Tables.{Sources, steps_of_thread, Precedes}
+use Rattle.gl_segments.specs.bodies.Tables.{Sources, steps_of_thread, IsSound, Precedes}
 
 -- a clock that counts a part of what is before the target
 pub record IsPart (steps : Sources) (clock : List ℕ) (target : Segment) : Type 0 where
@@ -62,3 +62,10 @@ pub record AreSwept (steps : Sources) (sweep : Sweep) : Type 0 where
   pub size : length sweep.rows ≡ length steps
   -- they are known
   pub rows : HaveRows steps sweep.rows
+
+-- a sweep over the steps may go on
+pub record CanSweep (steps : Sources) (sweep : Sweep) : Type 0 where
+  -- the steps can be taken
+  pub sound : IsSound steps
+  -- so far it has come
+  pub swept : AreSwept steps sweep

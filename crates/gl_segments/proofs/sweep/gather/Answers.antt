@@ -29,8 +29,8 @@ loop-source-preserved c =
     elim c.if-source-ahead.branch [
       | then-source-ahead+in_ok-join w ↦
           rw w.growing-is (record {
-            same_thread = w.join.ensures.thread ∙ inv.same_thread;
-            same_segments = w.join.ensures.segments ∙ inv.same_segments;
+            same_thread = w.join.ensures.still.thread ∙ inv.same_thread;
+            same_segments = w.join.ensures.still.segments ∙ inv.same_segments;
             items = inv.items;
             part = w.in_ok-join.ensures.part c.args.steps.now c.args.at c.requires.sound c.requires.rows leads inv.part;
             noted = λ clocks some noted. w.in_ok-join.ensures.noted clocks some (inv.noted clocks some noted);

@@ -1,5 +1,5 @@
-use Rattle.std.proofs.Common.{◌≡◌, ℕ, ◌<◌, List, length}
-use Rattle.gl_segments.specs.bodies.Histories.{IsNoted}
+use Rattle.std.proofs.Common.{◌≡◌}
+use Rattle.gl_segments.specs.bodies.Histories.{KeepsClocks}
 use Rattle.gl_segments.specs.bodies.Sweeps.{IsPart}
 use Rattle.gl_segments.specs.bodies.Tables.{sources}
 use Rattle.gl_segments.proofs.sweep.gather.Given as goal
@@ -11,5 +11,5 @@ invariant-loop-source l = record {
   same_segments : l.growing.segments ≡ l.fn.growing.segments;
   items : l.source-items ≡ sources l.steps l.fn.at;
   part : IsPart l.steps l.growing.latest l.fn.at;
-  noted : (clocks : List (List ℕ)) → 0 < length clocks → IsNoted l.fn.growing clocks → IsNoted l.growing clocks;
+  noted : KeepsClocks l.fn.growing l.growing;
 }

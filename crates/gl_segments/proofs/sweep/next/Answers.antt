@@ -35,8 +35,8 @@ returns-clause-growing c =
     let is : IsClockOf steps clock at = part_whole steps sound clock at part all in
     let apart : Counts clock at → ⊥ = λ itself. let a = c.ahead.ensures in let f = c.if-index-ahead.false in omega arith in
     let own = own_count steps sound clock c.args.thread old.segments c.requires.has is apart in
-    let thread = c.gather.ensures.thread ∙ c.note_count.ensures.thread ∙ known.same_thread in
-    let segments = c.gather.ensures.segments ∙ c.note_count.ensures.segments in
+    let thread = c.gather.ensures.still.thread ∙ c.note_count.ensures.still.thread ∙ known.same_thread in
+    let segments = c.gather.ensures.still.segments ∙ c.note_count.ensures.still.segments in
     let some = known.begun in
     let size = known.clocks.1.size in
     let noted_count = c.in_ok-note_count.ensures.noted clocks (omega arith) known.clocks.1 in

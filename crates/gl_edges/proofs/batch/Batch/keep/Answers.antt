@@ -8,6 +8,6 @@ returns-then-knows c = sym (c.knows.ensures c.if-knows.true) ∙ ap (λ pairs. o
 
 pub returns : goal.returns
 returns c =
-    rw (c.in_ok-push.ensures.items, c.in_ok-copy.ensures)
+    rw (c.in_ok-push.ensures.items, c.in_ok-copy.ensures.same)
     (once_push c.self.inside.ended.items c.self.inside.pairs.items c.self.inside.pairs.items (c.args.edge.now, c.args.sample) refl
     ∙ ap (λ pairs. once (pairs ++ (c.args.edge.now, c.args.sample) ∷ [])) (c.self.view_is ∙ c.make_room.ensures))

@@ -10,7 +10,7 @@ loop-entry-init c = record {
   wants = refl;
   wants_as = refl;
   in_segment = c.segment-self.ensures;
-  guarded = c.in_ok-refill.ensures ∙ ap guards_of c.entries-entries.ensures;
+  guarded = c.in_ok-refill.ensures.guards ∙ ap guards_of c.entries-entries.ensures;
   same_seen = refl;
   known = λ pairs is. table_nil _ pairs is;
 }

@@ -20,7 +20,7 @@ loop-edge-preserved c =
     let more = rest_more deref_pair _ _ _ _ c.in-Some.is c.next.ensures.steps in
     let table = c.loop-edge.table in
     let pair : Edge × Sample = (c.in-Some.edge.now, c.in-Some.sample.now) in
-    let inserted = c.in_ok-insert.ensures.inserted ∙ ap (λ e. once (table ++ (e, c.in-Some.sample.now) ∷ [])) c.in_ok-copy.ensures in
+    let inserted = c.in_ok-insert.ensures.inserted ∙ ap (λ e. once (table ++ (e, c.in-Some.sample.now) ∷ [])) c.in_ok-copy.ensures.same in
     record {
       own = rw inserted (once_again (table ++ pair ∷ []));
       whole = rw inserted (once_moved table pair c.next.new.self ∙ ap (λ rest. once (table ++ rest)) (sym more) ∙ c.loop-edge.invariant.whole);

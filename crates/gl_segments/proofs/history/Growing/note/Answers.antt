@@ -33,8 +33,8 @@ loop-link-preserved c =
     let among = c.requires.among c.loop-link.link-index link here in
     let within : link.segment.thread < length latest = let width = inv.width in omega arith in
     record {
-      same_thread = c.in_ok-note_count.ensures.thread ∙ inv.same_thread;
-      same_segments = c.in_ok-note_count.ensures.segments ∙ inv.same_segments;
+      same_thread = c.in_ok-note_count.ensures.still.thread ∙ inv.same_thread;
+      same_segments = c.in_ok-note_count.ensures.still.segments ∙ inv.same_segments;
       width = ap length set ∙ length-set latest link.segment.thread c.ahead.result ∙ inv.width;
       counted = rw (set, c.ahead.ensures) (counted_more c.args.found.now latest clock c.loop-link.link-index link here within inv.counted);
       either = rw (set, c.ahead.ensures) (either_more c.args.self.now.latest latest clock link.segment.thread within inv.either);

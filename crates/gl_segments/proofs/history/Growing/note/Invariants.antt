@@ -1,5 +1,5 @@
-use Rattle.std.proofs.Common.{◌≡◌, ℕ, ◌<◌, List, length}
-use Rattle.gl_segments.specs.bodies.Histories.{IsNoted}
+use Rattle.std.proofs.Common.{◌≡◌, length}
+use Rattle.gl_segments.specs.bodies.Histories.{KeepsClocks}
 use Rattle.gl_segments.proofs.Noting.{AreCounted, AreEither}
 use Rattle.gl_segments.proofs.history.Growing.note.Given as goal
 
@@ -11,5 +11,5 @@ invariant-loop-link l = record {
   width : length l.self.latest ≡ length l.clock;
   counted : AreCounted l.found l.self.latest l.clock l.link-index;
   either : AreEither l.fn.self.latest l.self.latest l.clock;
-  noted : (clocks : List (List ℕ)) → 0 < length clocks → IsNoted l.fn.self clocks → IsNoted l.self clocks;
+  noted : KeepsClocks l.fn.self l.self;
 }

@@ -22,8 +22,8 @@ loop-place-preserved c =
     let first = c.args.first.now in
     let new = c.reach.new.self.latest in
     record {
-      same_thread = c.reach.ensures.thread ∙ inv.same_thread;
-      same_segments = c.reach.ensures.segments ∙ inv.same_segments;
+      same_thread = c.reach.ensures.still.thread ∙ inv.same_thread;
+      same_segments = c.reach.ensures.still.segments ∙ inv.same_segments;
       merged = merged_twice _ _ _ _ inv.merged merged;
       reached = λ k below.
           elim (cases_lt k c.loop-place.place) [

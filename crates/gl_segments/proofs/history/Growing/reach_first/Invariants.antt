@@ -1,6 +1,6 @@
-use Rattle.std.proofs.Common.{◌≡◌, [], ℕ, ◌<◌, List, length}
+use Rattle.std.proofs.Common.{◌≡◌, [], ℕ, ◌<◌}
 use Rattle.std.specs.Prelude.{slice_index, slice_index_or}
-use Rattle.gl_segments.specs.bodies.Histories.{IsNoted}
+use Rattle.gl_segments.specs.bodies.Histories.{KeepsClocks}
 use Rattle.gl_segments.specs.bodies.Merging.{IsMerged, IsReached}
 use Rattle.gl_segments.proofs.history.Growing.reach_first.Given as goal
 
@@ -11,5 +11,5 @@ invariant-loop-place l = record {
   same_segments : l.self.segments ≡ l.fn.self.segments;
   merged : IsMerged l.fn.self.latest (slice_index_or l.other l.index []) l.self.latest 0;
   reached : (k : ℕ) → k < l.place → IsReached (slice_index_or l.other l.index []) l.self.latest k (slice_index l.first k);
-  noted : (clocks : List (List ℕ)) → 0 < length clocks → IsNoted l.fn.self clocks → IsNoted l.self clocks;
+  noted : KeepsClocks l.fn.self l.self;
 }

@@ -25,8 +25,8 @@ loop-at-preserved c =
     let growths = c.args.growths.now in
     let growth : Growth = c.get-growth.result in
     record {
-      same_thread = c.reach.ensures.thread ∙ inv.same_thread;
-      same_segments = c.reach.ensures.segments ∙ inv.same_segments;
+      same_thread = c.reach.ensures.still.thread ∙ inv.same_thread;
+      same_segments = c.reach.ensures.still.segments ∙ inv.same_segments;
       merged = merged_twice _ _ _ _ inv.merged merged;
       reached = λ p g below here.
           elim (cases_lt p c.loop-at.at) [

@@ -1,7 +1,7 @@
-use Rattle.std.proofs.Common.{◌≡◌, [], ℕ, ◌<◌, List, Some, length}
+use Rattle.std.proofs.Common.{◌≡◌, [], ℕ, ◌<◌, Some}
 use Rattle.std.specs.Prelude.{slice_get, slice_index_or}
 use Rattle.gl_segments.specs.declared.growths.Growth.{Growth}
-use Rattle.gl_segments.specs.bodies.Histories.{IsNoted}
+use Rattle.gl_segments.specs.bodies.Histories.{KeepsClocks}
 use Rattle.gl_segments.specs.bodies.Merging.{IsMerged, IsReached}
 use Rattle.gl_segments.proofs.history.Growing.reach_growths.Given as goal
 
@@ -12,5 +12,5 @@ invariant-loop-at l = record {
   same_segments : l.self.segments ≡ l.fn.self.segments;
   merged : IsMerged l.fn.self.latest (slice_index_or l.other l.index []) l.self.latest 0;
   reached : (p : ℕ) (g : Growth) → p < l.at → slice_get l.growths p ≡ Some g → IsReached (slice_index_or l.other l.index []) l.self.latest g.thread g.count;
-  noted : (clocks : List (List ℕ)) → 0 < length clocks → IsNoted l.fn.self clocks → IsNoted l.self clocks;
+  noted : KeepsClocks l.fn.self l.self;
 }

@@ -1,7 +1,11 @@
 use Rattle.std.proofs.Common.{◌<◌, length, sym, ap, subst, arith}
+use Rattle.std.specs.Prelude.{slice_set}
 use Rattle.gl_segments.specs.bodies.Sweeps.{HaveRows, IsRow}
 use Rattle.gl_segments.proofs.Telling.{rows_set}
 use Rattle.gl_segments.proofs.rows.Rows.put.Goals as goal
+
+pub returns-clause-set : goal.returns-clause-set
+returns-clause-set c = λ i. slice_set (c.self.view_is i) (c.number.ensures i) c.args.row
 
 pub returns-clause-rows : goal.returns-clause-rows
 returns-clause-rows c = λ steps is have.

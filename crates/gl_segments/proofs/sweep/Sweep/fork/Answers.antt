@@ -7,11 +7,11 @@ use Rattle.gl_segments.specs.bodies.Tables.{LeadsTo}
 use Rattle.gl_segments.proofs.sweep.Sweep.fork.Goals as goal
 
 pub tell-requires-clause-fit : goal.tell-requires-clause-fit
-tell-requires-clause-fit c = λ thread front here. let few = (c.requires.swept.rows thread (Waiting front) here).few in let width = c.requires.width in omega arith
+tell-requires-clause-fit c = λ thread front here. let few = (c.requires.sweeps.swept.rows thread (Waiting front) here).few in let width = c.requires.width in omega arith
 
 pub returns-in_ok-tell-in-Some : goal.returns-in_ok-tell-in-Some
 returns-in_ok-tell-in-Some c =
-    let swept = c.requires.swept in
+    let swept = c.requires.sweeps.swept in
     let from : Segment = record { thread = c.args.thread; index = c.args.index } in
     let fork = c.in-Some.fork.now in
     let looked = c.in-Some.ensures.lookup in
@@ -21,5 +21,5 @@ returns-in_ok-tell-in-Some c =
     record {
       forks = swept.forks;
       size = c.tell.ensures.size ∙ swept.size;
-      rows = c.in_ok-tell-in-Some.ensures.rows c.args.steps.now c.requires.sound c.requires.width c.requires.clock c.requires.apart step swept.rows;
+      rows = c.in_ok-tell-in-Some.ensures.rows c.args.steps.now c.requires.sweeps.sound c.requires.width c.requires.clock c.requires.apart step swept.rows;
     }
