@@ -1,3 +1,4 @@
 -- The words of loops and private functions. No public contract cites them.
 pub mod Blocks
+pub mod NoReport
 pub mod Searching

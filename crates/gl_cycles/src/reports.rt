@@ -7,7 +7,8 @@ ghost use Rattle.gl_segments.specs.Clocks.{is_before};
 ghost use Rattle.gl_segments.specs.Orders.{lists_of, IsFaultOf};
 ghost use Rattle.gl_filters.specs.Picked.{edges_of_table};
 ghost use Rattle.gl_cycles.specs.Listed.{listed_cycles};
-ghost use Rattle.gl_cycles.specs.Reports.{IsGoodlockReport, IsReport, IsReportFault, report_by, report_fault_of};
+ghost use Rattle.gl_cycles.specs.Reports.{IsGoodlockReport, IsReport, IsReportFault, report_by};
+ghost use Rattle.gl_cycles.specs.bodies.NoReport.{report_fault_of};
 ghost use Rattle.gl_trims.specs.Trims.{whole_trim};
 
 use crate::found::{Found, Report, ReportFault, TrimOrder};
