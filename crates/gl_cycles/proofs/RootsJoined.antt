@@ -1,20 +1,13 @@
 -- What is found root by root, joined.
-use Rattle.std.proofs.Common.{◌≡◌, ℕ, zero, suc, ◌+◌, ◌-◌, ◌<◌, ◌≤◌, List, [], ◌∷◌, ◌++◌, length, map, take, refl, sym, ap, ◌∙◌, arith}
+use Rattle.std.proofs.Common.{◌≡◌, ℕ, zero, suc, ◌+◌, ◌-◌, ◌≤◌, List, [], ◌∷◌, ◌++◌, map, take, refl, sym, ap, ◌∙◌, arith}
 use Rattle.std.specs.Prelude.{IfOk}
 use Rattle.std.specs.List.{flat_map, range_with_len, AllZip}
 use Rattle.std.specs.declared.result.Result.{Result}
 use Rattle.std.specs.declared.result.Result.TheVariants.{Ok}
-use Rattle.std.proofs.lemmas.List.{take-take, length-map, append_assoc, append-nil}
+use Rattle.std.proofs.lemmas.List.{take-take, append_assoc, append-nil}
 use Rattle.std.proofs.lemmas.Grind.{flat_map-append}
-use Rattle.gl_segments.specs.Clocks.{is_before}
-use Rattle.gl_cycles.specs.declared.paths.Searcher.{Searcher}
-use Rattle.gl_filters.specs.Picked.{edges_of_table}
-use Rattle.gl_cycles.specs.AllCycles.{all_cycles}
-use Rattle.gl_cycles.specs.bodies.Blocks.{block, blocks_below}
-use Rattle.gl_cycles.specs.bodies.Searching.{first_from}
 use Rattle.rayon.specs.Shown.{run-append}
 use Rattle.gl_cycles.proofs.ListsOfPositions.{take-take_append}
-use Rattle.gl_cycles.proofs.PathsGrow.{all_from_roots}
 
 -- the first of joined lists, where only the first of the second one are known
 pub take_append-take : {X : Type 0} (n m : ℕ) (xs ys : List X) → n ≤ m → take n (xs ++ ys) ≡ take n (xs ++ take m ys)
@@ -37,16 +30,11 @@ flat-map f (x ∷ xs) = ap (λ l. f x ++ l) (flat-map f xs)
 pub flat-same : {X Y Z : Type 0} (f : X → List Z) (g : Y → List Z) (xs : List X) (ys : List Y) → map f xs ≡ map g ys → flat_map f xs ≡ flat_map g ys
 flat-same f g xs ys same = flat-map f xs ∙ ap (flat_map (λ l. l)) same ∙ sym (flat-map g ys)
 
--- what the roots give, up to the cap, is the first of all
-pub of_roots : (s : Searcher) → 0 < s.len → take s.cap (flat_map (first_from s) (range_with_len 0 (length s.table.now))) ≡ take s.cap (all_cycles (is_before s.order.now) s.mode s.len (edges_of_table s.table.now))
-of_roots s some =
-    let before = is_before s.order.now in
-    let edges = edges_of_table s.table.now in
-    let len : suc (s.len - 1) ≡ s.len = omega (arith, some) in
-    flat-take s.cap (λ root. block before s.mode edges (s.len - 1) (root ∷ [])) (range_with_len 0 (length s.table.now))
-    ∙ ap (λ n. take s.cap (blocks_below before s.mode edges (s.len - 1) [] n)) (sym (length-map s.table.now (λ pair. pair.0)))
-    ∙ ap (take s.cap) (sym (all_from_roots before s.mode edges (s.len - 1)))
-    ∙ ap (λ n. take s.cap (all_cycles before s.mode n edges)) len
+-- behind what there was before, too
+pub flat-take-behind : {X Y : Type 0} (cap : ℕ) (f : X → List Y) (xs : List X) (before : List Y) → take cap (before ++ flat_map (λ x. take cap (f x)) xs) ≡ take cap (before ++ flat_map f xs)
+flat-take-behind cap f xs before =
+    take_append-take cap cap before (flat_map (λ x. take cap (f x)) xs) (omega arith) ∙ ap (λ l. take cap (before ++ l)) (flat-take cap f xs)
+    ∙ sym (take_append-take cap cap before (flat_map f xs) (omega arith))
 
 -- what each piece has, where each of the answers has it
 pub pieces_are : {V : Type 0} (E : Type 0) (view : V → List (List ℕ)) (first : ℕ → List (List ℕ)) (roots : List ℕ) (ys : List V)
@@ -68,16 +56,14 @@ run_more cap f old now a n m is =
     ap (λ l. take cap (l ++ next)) is ∙ take-take_append cap (old ++ flat_map f (range_with_len a n)) next
     ∙ ap (take cap) (append_assoc old (flat_map f (range_with_len a n)) next ∙ ap (λ l. old ++ l) (flat-runs f a n m))
 
--- and of one number more, of which only the first are known
-pub root_more : {Y : Type 0} (cap : ℕ) (f : ℕ → List Y) (old now new : List Y) (a k : ℕ) → a ≤ k → now ≡ take cap (old ++ flat_map (λ i. take cap (f i)) (range_with_len a (k - a)))
-    → new ≡ take cap (now ++ f k) → new ≡ take cap (old ++ flat_map (λ i. take cap (f i)) (range_with_len a (k + 1 - a)))
+-- and of one number more
+pub root_more : {Y : Type 0} (cap : ℕ) (f : ℕ → List Y) (old now new : List Y) (a k : ℕ) → a ≤ k → now ≡ take cap (old ++ flat_map f (range_with_len a (k - a)))
+    → new ≡ take cap (now ++ f k) → new ≡ take cap (old ++ flat_map f (range_with_len a (k + 1 - a)))
 root_more cap f old now new a k le is grown =
     let here : a + (k - a) ≡ k = omega arith in
     let more : k - a + 1 ≡ k + 1 - a = omega arith in
-    grown ∙ take_append-take cap cap now (f k) (omega arith)
-    ∙ ap (λ l. take cap (now ++ l)) (sym (append-nil (take cap (f k))) ∙ ap (λ i. flat_map (λ i. take cap (f i)) (range_with_len i 1)) (sym here))
-    ∙ run_more cap (λ i. take cap (f i)) old now a (k - a) 1 is
-    ∙ ap (λ n. take cap (old ++ flat_map (λ i. take cap (f i)) (range_with_len a n))) more
+    grown ∙ ap (λ l. take cap (now ++ l)) (sym (append-nil (f k)) ∙ ap (λ i. flat_map f (range_with_len i 1)) (sym here))
+    ∙ run_more cap f old now a (k - a) 1 is ∙ ap (λ n. take cap (old ++ flat_map f (range_with_len a n))) more
 
 -- a run after those from the start on
 pub runs_on : {Y : Type 0} (cap : ℕ) (f : ℕ → List Y) (now new : List Y) (n m : ℕ) → n ≤ m → now ≡ take cap (flat_map f (range_with_len 0 n)) → new ≡ take cap (now ++ flat_map f (range_with_len n (m - n)))

@@ -3,4 +3,5 @@ pub mod Faults
 pub mod Laws
 pub mod Listed
 pub mod Reports
+pub mod Roots
 pub mod bodies

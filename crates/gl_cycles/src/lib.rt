@@ -16,8 +16,8 @@
 //! nothing. No edge of a cycle is among them, as [`cycles_survive_trims`] says. So where all go there is
 //! no cycle, in whichever order they go: [`removal_fault`] checks an order that was given.
 //!
-//! How a search on several threads deals out where to begin ([`next_end`]), puts together what was found
-//! apart ([`add_pieces`]) and lists it ([`Found::listed`]) is the same for findings (gl_findings).
+//! How a search that begins at one root after the other goes on on several threads ([`found_by_roots`]), and
+//! how what it found is listed ([`Found::listed`]), is the same for findings (gl_findings).
 //!
 //! docs/GLOSSARY.md has its words beside those of the field.
 #![tactic(auto)]
@@ -28,6 +28,7 @@ mod parallel;
 mod paths;
 mod pieces;
 mod reports;
+mod roots;
 mod runs;
 mod searches;
 mod stages;
@@ -39,9 +40,8 @@ pub use laws::{
     cycles_are_all, cycles_are_level, cycles_ascend, cycles_ascend_by_edges, cycles_survive_trims,
     no_cycle_if_all_go, reports_are_unique, trims_are_unique,
 };
-pub use pieces::add_pieces;
 pub use reports::{
     report_by, report_by_parallel, report_of_lists, report_over, report_over_parallel,
 };
-pub use runs::next_end;
+pub use roots::{RootedSearch, found_by_roots};
 pub use searches::{search, search_parallel};

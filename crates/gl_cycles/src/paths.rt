@@ -7,7 +7,7 @@ ghost use Rattle.gl_filters.specs.Test.{can_follow, goes_with, leads_back, is_pa
 ghost use Rattle.gl_filters.specs.Picked.{edges_of_table, picked};
 ghost use Rattle.gl_cycles.specs.AllCycles.{all_cycles};
 ghost use Rattle.gl_pruning.specs.Sought.{KeepsSought};
-ghost use Rattle.gl_cycles.specs.bodies.Searching.{IsReady, HasFound, HasGrown, all_from, first_from, sought_by};
+ghost use Rattle.gl_cycles.specs.bodies.Searching.{CanFinish, IsReady, HasFound, HasGrown, all_from, first_from, sought_by};
 ghost use Rattle.gl_filters.specs.declared.steps.Stop.TheVariants.{Memory};
 ghost use Rattle.gl_edges.specs.declared.edge.Edge.{Edge};
 
@@ -123,9 +123,7 @@ impl Searcher<'_> {
         from: usize,
         found: Vec<Vec<usize>>,
     ) -> Result<Vec<Vec<usize>>, Memory>
-        requires some { 0 < self.now.len }
-        requires ready { IsReady self.now }
-        requires unbound { self.now.is_bound ≡ false }
+        requires finishes { CanFinish self.now }
         requires found { HasFound (sought_by self.now) self.now.cap from
             (map (λ cycle. cycle.items) found.items) }
         ensures { IfOk result
@@ -222,20 +220,6 @@ impl Searcher<'_> {
         }
     }
 
-    // The cycles that begin with the edge at a position, up to the cap.
-    pub(crate) fn cycles_from(&self, alloc: Global, root: usize) -> Result<Vec<Vec<usize>>, Memory>
-        requires some { 0 < self.now.len }
-        requires ready { IsReady self.now }
-        requires unbound { self.now.is_bound ≡ false }
-        requires there { root < length self.now.table.now }
-        ensures { IfOk result
-            (λ found. map (λ cycle. cycle.items) found.items ≡ first_from self.now root) }
-    {
-        let mut found = Vec::new(alloc);
-        self.add_from(alloc, root, &mut found)?;
-        Ok(found)
-    }
-
     // Adds the cycles that begin with the edge at a position, up to the cap, in as many steps as it
     // takes.
     pub(crate) fn add_from(
@@ -244,10 +228,8 @@ impl Searcher<'_> {
         root: usize,
         found: &mut Vec<Vec<usize>>,
     ) -> Result<(), Memory>
-        requires some { 0 < self.now.len }
+        requires finishes { CanFinish self.now }
         requires there { root < length self.now.table.now }
-        requires ready { IsReady self.now }
-        requires unbound { self.now.is_bound ≡ false }
         requires room { length found.old.items ≤ self.now.cap }
         ensures { OnOk result
             (map (λ cycle. cycle.items) found.new.items

@@ -45,9 +45,7 @@ pub(crate) fn add_cycles(
 }
 
 /// Adds the cycles of the pieces, one piece after the other, up to the cap.
-///
-/// Err where memory was refused.
-pub fn add_pieces(
+pub(crate) fn add_pieces(
     alloc: Global,
     found: &mut Vec<Vec<usize>>,
     pieces: &[Vec<Vec<usize>>],

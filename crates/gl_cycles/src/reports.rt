@@ -8,6 +8,7 @@ ghost use Rattle.gl_segments.specs.Orders.{IsFaultOf};
 ghost use Rattle.gl_filters.specs.Picked.{edges_of_table};
 ghost use Rattle.gl_cycles.specs.Listed.{listed_cycles};
 ghost use Rattle.gl_cycles.specs.Reports.{IsGoodlockReport, IsReport, IsReportFault, report_by};
+ghost use Rattle.gl_cycles.specs.bodies.NoReport.{report_fault_of};
 ghost use Rattle.gl_trims.specs.Trims.{whole_trim};
 
 use crate::found::{Found, Report, ReportFault, TrimOrder};
@@ -22,7 +23,9 @@ use std::thread::Threads;
 
 // Why there is no report where there is no order.
 fn no_report(fault: OrderFault) -> ReportFault
-    ensures { (lists : List (List Event)) → IsFaultOf lists fault → IsReportFault lists result }
+    ensures same { result ≡ report_fault_of fault }
+    ensures lawful { (lists : List (List Event)) → IsFaultOf lists fault
+        → IsReportFault lists result }
 {
     match fault {
         OrderFault::Inconsistent { at, ring } => ReportFault::Inconsistent { at, ring },

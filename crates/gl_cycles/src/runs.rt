@@ -3,7 +3,7 @@ ghost use Rattle.std.specs.Prelude.{◌≡◌, ◌+◌, ◌-◌, ◌<◌, ◌≤
 
 /// Up to where roots are looked at next, of which some from one on were: there are as many as before and
 /// at least so many, but not more than there are.
-pub fn next_end(from: usize, done: usize, size: usize, least: usize) -> usize
+pub(crate) fn next_end(from: usize, done: usize, size: usize, least: usize) -> usize
     requires from { from ≤ done }
     requires left { done < size }
     requires least { 0 < least }

@@ -1,24 +1,17 @@
 -- What is found class by class, joined.
-use Rattle.std.proofs.Common.{◌≡◌, ℕ, zero, suc, ◌+◌, ◌-◌, ◌<◌, ◌≤◌, List, [], ◌∷◌, ◌++◌, length, take, get_or, Some, refl, sym, ap, subst, ◌∙◌, arith}
-use Rattle.std.specs.Prelude.{slice_get, All, IfOk}
-use Rattle.std.specs.List.{flat_map, range_with_len, AllZip}
-use Rattle.std.specs.declared.result.Result.{Result}
+use Rattle.std.proofs.Common.{◌≡◌, ℕ, zero, suc, ◌+◌, ◌-◌, ◌<◌, ◌≤◌, List, [], ◌∷◌, ◌++◌, length, get_or, Some, refl, sym, ap, ◌∙◌, arith}
+use Rattle.std.specs.Prelude.{slice_get, All}
+use Rattle.std.specs.List.{flat_map, range_with_len}
 use Rattle.std.proofs.lemmas.List.{append-nil}
 use Rattle.std.proofs.lemmas.List.Elements.{All-push}
 use Rattle.std.proofs.lemmas.Grind.{flat_map-append}
 use Rattle.gl_segments.specs.Clocks.{is_before}
-use Rattle.gl_cycles.proofs.RootsJoined.{flat-take}
 use Rattle.gl_cycles.proofs.ListsOfPositions.{upto-more, upto-until}
 use Rattle.gl_findings.specs.Findings.{findings}
-use Rattle.gl_findings.specs.bodies.Finding.{IsReady, block_of, below_of, first_from, first_of_root}
+use Rattle.gl_findings.specs.bodies.Finding.{IsReady, block_of, below_of, all_of_root}
 use Rattle.gl_findings.specs.declared.finder.Finder.{Finder}
 use Rattle.gl_findings.proofs.Below.{findings-from}
 use Rattle.gl_findings.proofs.Prepared.{skipped}
-
--- what each answer has, by what the closure that gave it holds
-pub by_held : {F V E : Type 0} (view : V → List (List ℕ)) (first : F → ℕ → List (List ℕ)) (f g : F) (roots : List ℕ) (rs : List (Result V E)) → f ≡ g
-    → AllZip (λ (root : ℕ) (r : Result V E). IfOk r (λ found. view found ≡ first f root)) roots rs → AllZip (λ (root : ℕ) (r : Result V E). IfOk r (λ found. view found ≡ first g root)) roots rs
-by_held {F} {V} {E} view first f g roots rs same all = subst (λ (q : F). AllZip (λ (root : ℕ) (r : Result V E). IfOk r (λ found. view found ≡ first q root)) roots rs) same all
 
 -- numbers that are one more
 one_on : {Y : Type 0} (g : ℕ → List Y) (a n : ℕ) → flat_map g (range_with_len (a + 1) n) ≡ flat_map (λ i. g (suc i)) (range_with_len a n)
@@ -63,10 +56,9 @@ module _ (s : Finder) (ready : IsReady s) where
   pub roots_all : (roots : List ℕ) (next : ℕ) → AreRoots s roots next → length s.table.now ≤ next → (n : ℕ) → flat_map (λ class. block_of s n (class ∷ [])) roots ≡ below_of s n [] (length s.table.now)
   roots_all roots next are end n = let reached = are.reached in let is : next ≡ length s.table.now = omega arith in are.joined n ∙ ap (below_of s n []) is
 
-  -- what they lead to, up to the cap, is the first of all
+  -- what they lead to is all
   pub of_roots : (roots : List ℕ) → flat_map (λ class. block_of s (s.len - 1) (class ∷ [])) roots ≡ below_of s (s.len - 1) [] (length s.table.now)
-      → take s.cap (flat_map (first_of_root s roots) (range_with_len 0 (length roots))) ≡ take s.cap (findings (is_before s.order.now) s.mode s.len s.table.now)
+      → flat_map (all_of_root s roots) (range_with_len 0 (length roots)) ≡ findings (is_before s.order.now) s.mode s.len s.table.now
   of_roots roots all =
       let some = ready.some in
-      ap (take s.cap) (by_places (first_from s) roots) ∙ flat-take s.cap (from_class (s.len - 1)) roots
-      ∙ ap (take s.cap) (all ∙ sym (findings-from (is_before s.order.now) s.mode s.len s.table.now (s.len - 1) (omega arith)))
+      by_places (from_class (s.len - 1)) roots ∙ all ∙ sym (findings-from (is_before s.order.now) s.mode s.len s.table.now (s.len - 1) (omega arith))

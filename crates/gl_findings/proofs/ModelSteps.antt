@@ -8,11 +8,12 @@ use Rattle.gl_edges.specs.declared.edge.Edge.{Edge}
 use Rattle.gl_edges.specs.declared.edge.Sample.{Sample}
 use Rattle.gl_filters.specs.Picked.{edges_of_table}
 use Rattle.gl_index.proofs.Lists.{element_at, set_here}
-use Rattle.gl_findings.specs.bodies.Grounds.{AreAlike, AreModels, HasModel}
+use Rattle.gl_pruning.specs.Kinds.{AreOfOneKind}
+use Rattle.gl_findings.specs.bodies.Grounds.{AreModels, HasModel}
 
 -- an edge that is alike and of the same class is a model once it is flagged
 pub model_here : (table : List (Edge × Sample)) (classes : List ℕ) (flags : List Bool) (model i : ℕ) → i < length table → length flags ≡ length table → model < length table → slice_get classes model ≡ slice_get classes i
-    → ((d e : Edge) → slice_get (edges_of_table table) model ≡ Some d → slice_get (edges_of_table table) i ≡ Some e → AreAlike d e) → HasModel (edges_of_table table) classes (set flags model true) i
+    → ((d e : Edge) → slice_get (edges_of_table table) model ≡ Some d → slice_get (edges_of_table table) i ≡ Some e → AreOfOneKind d e) → HasModel (edges_of_table table) classes (set flags model true) i
 model_here table classes flags model i there long within same alike =
     let size = length-map table (λ pair. pair.0) in
     let one = element_at (edges_of_table table) model (omega (arith, within, size)) in

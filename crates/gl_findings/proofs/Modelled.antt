@@ -9,7 +9,8 @@ use Rattle.gl_filters.specs.declared.query.Mode.{Mode}
 use Rattle.gl_filters.specs.Cycle.{asks_guards}
 use Rattle.gl_filters.specs.Picked.{picked}
 use Rattle.gl_filters.specs.Test.{waits_for, leads_to, lead_on, kinds_go_together}
-use Rattle.gl_findings.specs.bodies.Grounds.{AreAlike, AreModels}
+use Rattle.gl_pruning.specs.Kinds.{AreOfOneKind}
+use Rattle.gl_findings.specs.bodies.Grounds.{AreModels}
 use Rattle.gl_walks.specs.Walks.{kinds_together, is_front}
 
 -- each edge is alike with the one at its place
@@ -17,17 +18,17 @@ abbrev pub AllAlike : List Edge → List Edge → Type 0
 AllAlike [] [] = Unit {0}
 AllAlike [] (f ∷ fs) = ⊥
 AllAlike (e ∷ es) [] = ⊥
-AllAlike (e ∷ es) (f ∷ fs) = AreAlike e f × AllAlike es fs
+AllAlike (e ∷ es) (f ∷ fs) = AreOfOneKind e f × AllAlike es fs
 
 module _ (mode : Mode) where
-  alike_goes : (a b c d : Edge) → AreAlike a b → AreAlike c d → kinds_go_together mode a c ≡ kinds_go_together mode b d
+  alike_goes : (a b c d : Edge) → AreOfOneKind a b → AreOfOneKind c d → kinds_go_together mode a c ≡ kinds_go_together mode b d
   unfolding kinds_go_together
   alike_goes a b c d one other = λ i. not (eqb (one.held i) (other.held i)) && not (asks_guards mode && guards_clash (one.guards i) (other.guards i))
 
-  alike_leads : (a b c d : Edge) → AreAlike a b → AreAlike c d → leads_to a c ≡ leads_to b d
+  alike_leads : (a b c d : Edge) → AreOfOneKind a b → AreOfOneKind c d → leads_to a c ≡ leads_to b d
   alike_leads a b c d one other = λ i. waits_for (one.wanted i) (one.wanted_mode i) (other.held i) (other.held_mode i)
 
-  alike_goes_all : (a b : Edge) → AreAlike a b → (es fs : List Edge) → AllAlike es fs → list_all (kinds_go_together mode a) es ≡ list_all (kinds_go_together mode b) fs
+  alike_goes_all : (a b : Edge) → AreOfOneKind a b → (es fs : List Edge) → AllAlike es fs → list_all (kinds_go_together mode a) es ≡ list_all (kinds_go_together mode b) fs
   alike_goes_all a b one [] [] all = refl
   alike_goes_all a b one [] (f ∷ fs) all = absurd all
   alike_goes_all a b one (e ∷ es) [] all = absurd all

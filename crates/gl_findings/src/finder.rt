@@ -3,7 +3,7 @@ ghost use Rattle.std.specs.Prelude.{◌≡◌, ◌+◌, ◌-◌, ◌<◌, ◌≤
 ghost use Rattle.gl_segments.specs.Clocks.{is_before};
 ghost use Rattle.gl_filters.specs.declared.steps.Stop.TheVariants.{Memory};
 ghost use Rattle.gl_findings.specs.Findings.{findings};
-ghost use Rattle.gl_findings.specs.bodies.Finding.{AreAdded, IsReady, IsUnbound, finding_of, block_of, below_of, first_from};
+ghost use Rattle.gl_findings.specs.bodies.Finding.{AreAdded, IsReady, IsUnbound, finding_of, block_of, below_of};
 ghost use Rattle.gl_findings.specs.bodies.Told.{AreGrounds};
 
 use crate::grounds::Grounds;
@@ -147,23 +147,6 @@ impl Finder<'_> {
             Err(Stop::Memory) => Err(AllocError),
             Err(Stop::Spent) => unreachable!(),
         }
-    }
-
-    // The findings whose signature begins with a class, up to the cap.
-    pub(crate) fn findings_from(
-        &self,
-        alloc: Global,
-        class: usize,
-    ) -> Result<Vec<Vec<usize>>, Memory>
-        requires there { class < length self.now.table.now }
-        requires ready { IsReady self.now }
-        requires unbound { IsUnbound self.now }
-        ensures { IfOk result
-            (λ found. map (λ cycle. cycle.items) found.items ≡ first_from self.now class) }
-    {
-        let mut found = Vec::new(alloc);
-        self.add_from(alloc, class, &mut found)?;
-        Ok(found)
     }
 
     // Adds the findings whose signature begins with a class, up to the cap.

@@ -3,13 +3,15 @@
 //! Threads run the same code again and again, so that many edges differ in nothing but their thread and
 //! their segments. Of those one is the model, the first that is kept. Which edge is the model of another
 //! is not proved; that the two are alike is checked, and an edge that isn't alike is its own model.
-ghost use Rattle.std.specs.Prelude.{◌≡◌, ◌<◌, ℕ, Some, true, length, slice_get, IfOk, IsTrue, OnOk};
+ghost use Rattle.std.specs.Prelude.{◌≡◌, ◌<◌, ℕ, Some, true, length, slice_get, IfOk, OnOk};
 ghost use Rattle.gl_edges.specs.declared.edge.Edge.{Edge};
 ghost use Rattle.gl_filters.specs.Picked.{edges_of_table};
-ghost use Rattle.gl_findings.specs.bodies.Grounds.{AreAlike, AreModels, HasModel};
+ghost use Rattle.gl_pruning.specs.Kinds.{AreOfOneKind};
+ghost use Rattle.gl_findings.specs.bodies.Grounds.{AreModels, HasModel};
 
 use gl_edges::{Edge, EdgeList, GuardSets, Sample};
 use gl_event::{LockId, LockMode, Memory};
+use gl_pruning::are_of_one_kind;
 use std::alloc::Global;
 use std::collections::HashMap;
 
@@ -106,32 +108,13 @@ fn model_of(table: &[(Edge, Sample)], classes: &[usize], candidate: usize, i: us
     ensures within { result < length table.now }
     ensures same { slice_get classes.now result ≡ slice_get classes.now i }
     ensures alike { (d e : Edge) → slice_get (edges_of_table table.now) result ≡ Some d
-        → slice_get (edges_of_table table.now) i ≡ Some e → AreAlike d e }
+        → slice_get (edges_of_table table.now) i ≡ Some e → AreOfOneKind d e }
 {
     if candidate < table.len()
         && classes[candidate] == classes[i]
-        && are_alike(&table[candidate].0, &table[i].0)
+        && are_of_one_kind(&table[candidate].0, &table[i].0)
     {
         return candidate;
     }
     i
-}
-
-// Whether two edges are alike but for thread and segments.
-fn are_alike(e: &Edge, f: &Edge) -> bool
-    ensures { IsTrue result → AreAlike e.now f.now }
-{
-    if e.held != f.held {
-        return false;
-    }
-    if e.held_mode != f.held_mode {
-        return false;
-    }
-    if e.wanted != f.wanted {
-        return false;
-    }
-    if e.wanted_mode != f.wanted_mode {
-        return false;
-    }
-    e.guards == f.guards
 }

@@ -131,24 +131,24 @@ place_follows n k m k_in m_in = elim (cases_place n k m) [
 -- ---- edges that are alike
 
 leads_alike : (grain : Grain) (d e f g : Edge) → AreAlike grain d f → AreAlike grain e g → leads_to f g ≡ true → leads_to d e ≡ true
-leads_alike grain d e f g first second leads = (λ i. eqb (first.wanted i) (second.held i) && conflict (first.wanted_mode i) (second.held_mode i)) ∙ leads
+leads_alike grain d e f g first second leads = (λ i. eqb (first.of_one_kind.wanted i) (second.of_one_kind.held i) && conflict (first.of_one_kind.wanted_mode i) (second.of_one_kind.held_mode i)) ∙ leads
 
 -- edges with the same threads and segments are the same
 same_edge : (d f : Edge) → AreAlike BySegment d f → d ≡ f
 same_edge d f alike = λ i. record {
   thread = alike.made.0 i;
-  held = alike.held i;
-  held_mode = alike.held_mode i;
-  wanted = alike.wanted i;
-  wanted_mode = alike.wanted_mode i;
+  held = alike.of_one_kind.held i;
+  held_mode = alike.of_one_kind.held_mode i;
+  wanted = alike.of_one_kind.wanted i;
+  wanted_mode = alike.of_one_kind.wanted_mode i;
   first = alike.made.1.0 i;
   second = alike.made.1.1 i;
-  guards = alike.guards i;
+  guards = alike.of_one_kind.guards i;
 }
 
 kinds_alike : (mode : Mode) (grain : Grain) (d e f g : Edge) → AreAlike grain d f → AreAlike grain e g → kinds_go_together mode f g ≡ true → kinds_go_together mode d e ≡ true
 unfolding kinds_go_together
-kinds_alike mode grain d e f g first second goes = (λ i. not (eqb (first.held i) (second.held i)) && not (asks_guards mode && guards_clash (first.guards i) (second.guards i))) ∙ goes
+kinds_alike mode grain d e f g first second goes = (λ i. not (eqb (first.of_one_kind.held i) (second.of_one_kind.held i)) && not (asks_guards mode && guards_clash (first.of_one_kind.guards i) (second.of_one_kind.guards i))) ∙ goes
 
 -- edges that go together have different threads
 threads_apart : (before : Segment → Segment → Bool) (mode : Mode) (e f : Edge) → goes_with before mode e f ≡ true → not (eqb e.thread f.thread) ≡ true

@@ -54,7 +54,7 @@ module _ (before : Segment → Segment → Bool) (mode : Mode) (grain : Grain) (
     next_leads : (d f : Edge) → slice_get cycle (place_after (length cycle) k (m + 1)) ≡ Some f → AreAlike grain d f → gap_leads gap d ≡ true
     next_leads d f at alike =
         let end = by.ends here.0 here.1 in
-        leads_as gap.wanted d.held gap.wanted_mode d.held_mode here.0 f (leads_next f at) end.0 end.1 (sym alike.held) (sym alike.held_mode)
+        leads_as gap.wanted d.held gap.wanted_mode d.held_mode here.0 f (leads_next f at) end.0 end.1 (sym alike.of_one_kind.held) (sym alike.of_one_kind.held_mode)
 
     -- and behind it the cycle closes what is missing then, by the rest that may meet it
     goes_behind : (next : ℕ) (some : List ℕ) (d f : Edge) → m + 1 < length cycle → slice_get cycle (place_after (length cycle) k (m + 1)) ≡ Some f → slice_get edges next ≡ Some d → AreAlike grain d f
@@ -66,7 +66,7 @@ module _ (before : Segment → Segment → Bool) (mode : Mode) (grain : Grain) (
       begins = by.begins;
       ends = λ g at_g.
           let is_f : f ≡ g = same_Some f g (sym at ∙ at_g) in
-          (ap (λ x. x.wanted) (sym is_f) ∙ sym alike.wanted, ap (λ x. x.wanted_mode) (sym is_f) ∙ sym alike.wanted_mode);
+          (ap (λ x. x.wanted) (sym is_f) ∙ sym alike.of_one_kind.wanted, ap (λ x. x.wanted_mode) (sym is_f) ∙ sym alike.of_one_kind.wanted_mode);
       among = λ o i e g later below at_g stands_e flagged alike_e.
           let apart = places_differ (length cycle) k (m + 1) o by.within later below in
           narrowed i e d (by.among o i e g (omega arith) below at_g stands_e flagged alike_e) stands_e stands
@@ -142,8 +142,8 @@ module _ (before : Segment → Segment → Bool) (mode : Mode) (grain : Grain) (
         within = through.within;
         reached = omega (arith, is.two_or_more);
         short = omega (arith, is.not_too_long);
-        begins = λ f at. let alike = alike_root f at in (sym alike.held, sym alike.held_mode);
-        ends = λ f at. let alike = alike_root f (ap (slice_get cycle) (sym (place_first (length cycle) k through.within)) ∙ at) in (sym alike.wanted, sym alike.wanted_mode);
+        begins = λ f at. let alike = alike_root f at in (sym alike.of_one_kind.held, sym alike.of_one_kind.held_mode);
+        ends = λ f at. let alike = alike_root f (ap (slice_get cycle) (sym (place_first (length cycle) k through.within)) ∙ at) in (sym alike.of_one_kind.wanted, sym alike.of_one_kind.wanted_mode);
         among = λ o i d f later below at stands_d flagged alike.
             let first = element_at cycle k through.within in
             let start = ap (slice_get cycle) (place_first (length cycle) k through.within) ∙ first.1 in

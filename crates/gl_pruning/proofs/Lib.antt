@@ -5,3 +5,4 @@ pub mod Answered
 pub mod Back
 pub mod ByKinds
 pub mod Closing
+pub mod OfOneKind

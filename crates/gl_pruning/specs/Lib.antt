@@ -1,3 +1,4 @@
+pub mod Kinds
 pub mod Loops
 pub mod OffCycles
 pub mod Sought

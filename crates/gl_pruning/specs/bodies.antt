@@ -2,6 +2,6 @@
 pub mod Gaps
 pub mod Kinds
 pub mod Loops
-pub mod Ranks
+pub mod Numbers
 pub mod Users
 pub mod Walks

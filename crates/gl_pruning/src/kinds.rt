@@ -11,21 +11,21 @@
 //! One edge of each kind is its model, and rounds are looked for among models. Which edges are models
 //! of which is not proved; that an edge and its model are alike is checked, and an edge that isn't is
 //! its own model.
-ghost use Rattle.std.specs.Prelude.{◌≡◌, ◌<◌, ◌∷◌, [], ℕ, Some, true, length, slice_get, IsTrue, OnOk, IfOk};
+ghost use Rattle.std.specs.Prelude.{◌≡◌, ◌<◌, ◌∷◌, [], ℕ, Some, true, length, slice_get, OnOk, IfOk};
 ghost use Rattle.gl_segments.specs.Clocks.{is_before};
 ghost use Rattle.gl_filters.specs.Picked.{edges_of_table};
-ghost use Rattle.gl_pruning.specs.bodies.Kinds.{AreAlike, AreMadeAlike, HasModel, AreModels, HasModels, AreDead, NoneThrough};
+ghost use Rattle.gl_pruning.specs.bodies.Kinds.{AreAlike, HasModel, AreModels, HasModels, AreDead, NoneThrough};
 ghost use Rattle.gl_pruning.specs.bodies.Gaps.{AreDeadEnds, KnowsModels};
 ghost use Rattle.gl_pruning.specs.Sought.{KeepsSought};
 ghost use Rattle.gl_edges.specs.declared.edge.Edge.{Edge};
 
+use crate::alike::are_alike;
 use crate::dead_ends::{DeadEnds, ROOM};
 use crate::grains::Grain;
 use crate::models::models_of;
 use crate::parts::Part;
 use crate::rounds::Rounds;
 use crate::sought::Sought;
-use gl_edges::Edge;
 use gl_event::Memory;
 use gl_index::Followers;
 use std::alloc::Global;
@@ -38,39 +38,6 @@ const TRIES_OF_ONE: usize = 1_000;
 
 // How many models of rests are looked at, for one grain.
 const TESTS: usize = 2_000_000;
-
-// Whether two edges have the same threads and segments, as far as the grain tells them apart.
-fn are_made_alike(grain: Grain, e: &Edge, f: &Edge) -> bool
-    ensures { IsTrue result → AreMadeAlike grain e.now f.now }
-{
-    match grain {
-        Grain::ByKind => true,
-        Grain::ByThread => e.thread == f.thread,
-        Grain::BySegment => e.thread == f.thread && e.first == f.first && e.second == f.second,
-    }
-}
-
-// Whether two edges are alike.
-fn are_alike(grain: Grain, e: &Edge, f: &Edge) -> bool
-    ensures { IsTrue result → AreAlike grain e.now f.now }
-{
-    if !are_made_alike(grain, e, f) {
-        return false;
-    }
-    if e.held != f.held {
-        return false;
-    }
-    if e.held_mode != f.held_mode {
-        return false;
-    }
-    if e.wanted != f.wanted {
-        return false;
-    }
-    if e.wanted_mode != f.wanted_mode {
-        return false;
-    }
-    e.guards == f.guards
-}
 
 impl Sought<'_> {
     // Flags of the models of the edges that are kept.

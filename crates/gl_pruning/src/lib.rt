@@ -16,6 +16,7 @@
 //! docs/GLOSSARY.md has its words beside those of the field.
 #![tactic(auto)]
 
+mod alike;
 mod alone;
 mod candidates;
 mod components;
@@ -36,6 +37,7 @@ mod rounds;
 mod sought;
 mod ways;
 
+pub use alike::are_of_one_kind;
 pub use candidates::{edges_sought, edges_sought_parallel};
 pub use loops::edges_on_loops;
 pub use parallel::leave_out_in_turn_parallel;

@@ -3,9 +3,10 @@ ghost use Rattle.std.specs.Prelude.{◌≡◌, IfOk, IfSome, IfNone, map};
 ghost use Rattle.gl_filters.specs.Picked.{edges_of_table};
 ghost use Rattle.gl_pruning.specs.Loops.{IsNeverFalling, KeepsLoops};
 ghost use Rattle.gl_pruning.specs.bodies.Loops.{is_level};
-ghost use Rattle.gl_pruning.specs.bodies.Ranks.{rank_in};
+ghost use Rattle.gl_pruning.specs.bodies.Numbers.{number_in};
 
-use crate::ranks::Ranks;
+use crate::numbers::Numbers;
+use crate::ranks::ranks_of;
 use gl_edges::{Edge, Sample};
 use gl_event::Memory;
 use std::alloc::Global;
@@ -19,7 +20,7 @@ use std::alloc::Global;
 pub fn edges_on_loops(alloc: Global, table: &[(Edge, Sample)]) -> Result<Vec<bool>, Memory>
     ensures { IfOk result (λ kept. KeepsLoops (edges_of_table table.now) kept.items) }
 {
-    let ranks = Ranks::of(alloc, table)?;
+    let ranks = ranks_of(alloc, table)?;
     match level_edges(alloc, table, &ranks)? {
         Some(level) => Ok(level),
         None => all_edges(alloc, table),
@@ -30,23 +31,24 @@ pub fn edges_on_loops(alloc: Global, table: &[(Edge, Sample)]) -> Result<Vec<boo
 fn level_edges(
     alloc: Global,
     table: &[(Edge, Sample)],
-    ranks: &Ranks,
+    ranks: &Numbers,
 ) -> Result<Option<Vec<bool>>, Memory>
     ensures certified { IfOk result
         (λ level. IfSome level
-        (λ flags. IsNeverFalling (rank_in ranks.now) (edges_of_table table.now))) }
+        (λ flags. IsNeverFalling (number_in ranks.now) (edges_of_table table.now))) }
     ensures refused { IfOk result
         (λ level. IfNone level
-        (¬ IsNeverFalling (rank_in ranks.now) (edges_of_table table.now))) }
+        (¬ IsNeverFalling (number_in ranks.now) (edges_of_table table.now))) }
     ensures level { IfOk result
         (λ level. IfSome level
-        (λ flags. flags.items ≡ map (is_level (rank_in ranks.now)) (edges_of_table table.now))) }
+        (λ flags. flags.items
+        ≡ map (is_level (number_in ranks.now)) (edges_of_table table.now))) }
 {
     let mut level = Vec::new(alloc);
     for i in 0..table.len() {
         let edge = &table[i].0;
-        let held = ranks.rank(edge.held);
-        let wanted = ranks.rank(edge.wanted);
+        let held = ranks.number(edge.held);
+        let wanted = ranks.number(edge.wanted);
         if held > wanted {
             return Ok(None);
         }

@@ -25,8 +25,7 @@ use std::alloc::Global;
 // How many times all edges are looked at in a pass.
 const ROUNDS: usize = 1_000;
 
-// How many links of ways and edges beside them are looked at in a pass, by all parts together. In one
-// thread there is one pass.
+// How many links of ways and edges beside them are looked at in a pass, by all parts together.
 const BUDGET: usize = 100_000_000;
 
 // The label of a lock.

@@ -1,14 +1,15 @@
 //! Numbers of locks, and distances between them.
 ghost use Rattle.std.specs.Prelude.{◌≡◌, map, IfOk};
 ghost use Rattle.gl_filters.specs.Picked.{edges_of_table};
-ghost use Rattle.gl_pruning.specs.bodies.Walks.{number_in, ends_in, AreEnds};
+ghost use Rattle.gl_pruning.specs.bodies.Numbers.{number_in};
+ghost use Rattle.gl_pruning.specs.bodies.Walks.{ends_in, AreEnds};
 
 use gl_edges::{Edge, Sample};
 use gl_event::{LockId, Memory};
 use std::alloc::Global;
 use std::collections::HashMap;
 
-/// A number for each lock of a table, from 0 in order of first mention.
+/// A number for each lock of a table.
 #[derive(Drop)]
 pub(crate) struct Numbers {
     // locks that aren't there have number 0
@@ -23,7 +24,8 @@ pub(crate) struct Ends {
 }
 
 impl Numbers {
-    /// The numbers of the locks of a table. Two look-ups for each edge, and two for each lock.
+    /// The locks of a table, numbered from 0 in order of first mention. Two look-ups for each edge, and two for
+    /// each lock.
     pub(crate) fn of(alloc: Global, table: &[(Edge, Sample)]) -> Result<Numbers, Memory> {
         let mut by_lock = HashMap::new(alloc);
         for (edge, _) in table {
@@ -38,8 +40,8 @@ impl Numbers {
         self.by_lock.len()
     }
 
-    // The number of a lock.
-    fn number(&self, lock: LockId) -> usize
+    /// The number of a lock.
+    pub(crate) fn number(&self, lock: LockId) -> usize
         ensures { result ≡ number_in self.now lock }
     {
         self.by_lock.get(&lock).copied().unwrap_or(0)

@@ -19,7 +19,7 @@ const PARTS: usize = 8;
 // For how many edges other threads don't pay.
 const FEW: usize = 1_000;
 
-// How many times ways back are looked for, each time within the whole budget, since what one part
+// How many times ways back are looked for at most, each time within the whole budget, since what one part
 // leaves out another one sees the next time.
 const PASSES: usize = 3;
 
@@ -150,7 +150,8 @@ fn leave_out_parallel(
     }
 }
 
-/// The same as [`Sought::leave_out_in_turn`], on several threads, and with each reason once.
+/// The same as [`Sought::leave_out_in_turn`], on several threads. Ways back are looked for up to three times,
+/// each time with so much effort, and as long as some edge has none; the other reasons are gone through once.
 ///
 /// Err where memory was refused.
 pub fn leave_out_in_turn_parallel(

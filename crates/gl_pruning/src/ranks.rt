@@ -3,41 +3,22 @@
 //! Along an edge the rank should never fall, from the lock that is held to the one that is wanted:
 //! then it stays the same on the way round a loop. Ranks number the strongly connected components
 //! of the lock-order graph, so that all other edges rise. But only what a check finds counts.
-ghost use Rattle.std.specs.Prelude.{◌≡◌};
-ghost use Rattle.gl_pruning.specs.bodies.Ranks.{rank_in};
-
 use crate::components::{Step, components};
-use crate::numbers::number_of;
+use crate::numbers::{Numbers, number_of};
 use gl_edges::{Edge, Sample};
 use gl_event::{LockId, Memory};
 use std::alloc::Global;
 use std::collections::HashMap;
 
-/// A rank for each lock.
-#[derive(Drop)]
-pub(crate) struct Ranks {
-    // locks that aren't there have rank 0
-    by_lock: HashMap<LockId, usize>,
-}
-
-impl Ranks {
-    /// Ranks of the locks of a table. Two look-ups for each edge, and one step of two walks.
-    pub(crate) fn of(alloc: Global, table: &[(Edge, Sample)]) -> Result<Ranks, Memory> {
-        let mut by_lock = HashMap::new(alloc);
-        let steps = number_locks(alloc, table, &mut by_lock)?;
-        let found = components(alloc, by_lock.len(), &steps)?;
-        for rank in by_lock.values_mut() {
-            *rank = found.get(*rank).copied().flatten().unwrap_or(0);
-        }
-        Ok(Ranks { by_lock })
+/// The rank of each lock of a table. Two look-ups for each edge, and one step of two walks.
+pub(crate) fn ranks_of(alloc: Global, table: &[(Edge, Sample)]) -> Result<Numbers, Memory> {
+    let mut by_lock = HashMap::new(alloc);
+    let steps = number_locks(alloc, table, &mut by_lock)?;
+    let found = components(alloc, by_lock.len(), &steps)?;
+    for rank in by_lock.values_mut() {
+        *rank = found.get(*rank).copied().flatten().unwrap_or(0);
     }
-
-    /// The rank of a lock.
-    pub(crate) fn rank(&self, lock: LockId) -> usize
-        ensures { result ≡ rank_in self.now lock }
-    {
-        self.by_lock.get(&lock).copied().unwrap_or(0)
-    }
+    Ok(Numbers { by_lock })
 }
 
 // Numbers the locks from 0, and gives the edges as steps from number to number, without those that

@@ -1,5 +1,5 @@
 -- What a search of paths relies on.
-use Rattle.std.specs.Prelude.{◌≡◌, ℕ, ◌≤◌, ◌-◌, false, List, [], ◌∷◌, ◌++◌, length, take, Result, IfErr, OnOk}
+use Rattle.std.specs.Prelude.{◌≡◌, ℕ, ◌<◌, ◌≤◌, ◌-◌, false, List, [], ◌∷◌, ◌++◌, length, take, Result, IfErr, OnOk}
 use Rattle.gl_segments.specs.Clocks.{is_before}
 use Rattle.gl_filters.specs.Picked.{edges_of_table}
 use Rattle.gl_filters.specs.declared.steps.Stop.{Stop}
@@ -20,6 +20,12 @@ pub record IsReady (s : Searcher) : Type 0 where
       (edges_of_table s.table.now) s.kept.items
   -- and the index leads through the rest
   pub indexed : IsIndexOf (edges_of_table s.table.now) s.kept.items s.index
+
+-- the search can begin, and goes on to its end, as many steps as that takes
+pub record CanFinish (s : Searcher) : Type 0 where
+  pub some : 0 < s.len
+  pub ready : IsReady s
+  pub unbound : s.is_bound ≡ false
 
 -- the cycles that begin with a front
 abbrev pub all_from : Searcher → List ℕ → List (List ℕ)

@@ -1,5 +1,5 @@
 -- What a search of signatures is told, and what it finds.
-use Rattle.std.specs.Prelude.{◌≡◌, ℕ, ◌<◌, ◌≤◌, ◌-◌, false, List, [], ◌∷◌, ◌++◌, length, take, get_or}
+use Rattle.std.specs.Prelude.{◌≡◌, ℕ, ◌<◌, ◌≤◌, ◌-◌, false, List, [], ◌∷◌, ◌++◌, length, take, get_or, All}
 use Rattle.gl_segments.specs.Clocks.{is_before}
 use Rattle.gl_filters.specs.Picked.{edges_of_table}
 use Rattle.gl_pruning.specs.OffCycles.{KeepsCycles}
@@ -12,6 +12,7 @@ use Rattle.gl_findings.specs.bodies.Grounds.{AreModels, IsNextClass}
 use Rattle.gl_findings.specs.bodies.Running.{AreRunners}
 use Rattle.gl_findings.specs.bodies.Growing.{finding, block, blocks_below}
 use Rattle.gl_findings.specs.declared.finder.Finder.{Finder}
+use Rattle.gl_findings.specs.declared.parallel.ByClass.{ByClass}
 
 -- the walker looks over the search's edges, for this purpose
 pub record WalksFor (s : Finder) (walker : Walker) (aim : Purpose) : Type 0 where
@@ -60,10 +61,12 @@ block_of s n front = block (is_before s.order.now) s.mode s.len s.table.now n fr
 abbrev pub below_of : Finder → ℕ → List ℕ → ℕ → List (List ℕ)
 below_of s n front k = blocks_below (is_before s.order.now) s.mode s.len s.table.now n front k
 
--- the findings whose signature begins with a class, up to the cap
-abbrev pub first_from : Finder → ℕ → List (List ℕ)
-first_from s class = take s.cap (block_of s (s.len - 1) (class ∷ []))
+-- all findings whose signature begins with the class at a place among these
+abbrev pub all_of_root : Finder → List ℕ → ℕ → List (List ℕ)
+all_of_root s roots i = block_of s (s.len - 1) (get_or roots i 0 ∷ [])
 
--- those of one of these classes
-abbrev pub first_of_root : Finder → List ℕ → ℕ → List (List ℕ)
-first_of_root s roots i = first_from s (get_or roots i 0)
+-- the search can begin, and goes on to its end from each of its classes
+pub record CanFinish (s : ByClass) : Type 0 where
+  pub ready : IsReady s.finder.now
+  pub unbound : IsUnbound s.finder.now
+  pub there : All (λ class. class < length s.finder.now.table.now) s.roots.now

@@ -1,16 +1,9 @@
 -- What a search of signatures relies on.
 use Rattle.std.specs.Prelude.{◌≡◌, ℕ, ◌+◌, ◌<◌, ◌≤◌, Bool, true, List, length, slice_get, Some}
 use Rattle.gl_edges.specs.declared.edge.Edge.{Edge}
+use Rattle.gl_pruning.specs.Kinds.{AreOfOneKind}
 
--- the two edges are alike but for thread and segments: they hold and want the same locks, in the same modes, under the same guards
-pub record AreAlike (e f : Edge) : Type 0 where
-  pub held : e.held ≡ f.held
-  pub held_mode : e.held_mode ≡ f.held_mode
-  pub wanted : e.wanted ≡ f.wanted
-  pub wanted_mode : e.wanted_mode ≡ f.wanted_mode
-  pub guards : e.guards ≡ f.guards
-
--- a flagged edge is a model of the one at position i: alike, and of the same class
+-- a flagged edge is a model of the one at position i: of one kind with it, and of the same class
 pub record HasModel (edges : List Edge) (classes : List ℕ) (flags : List Bool)
     (i : ℕ) : Type 0 where
   pub place : ℕ
@@ -20,7 +13,7 @@ pub record HasModel (edges : List Edge) (classes : List ℕ) (flags : List Bool)
   pub at_model : slice_get edges place ≡ Some model
   pub flagged : slice_get flags place ≡ Some true
   pub same_class : slice_get classes place ≡ slice_get classes i
-  pub alike : AreAlike model edge
+  pub alike : AreOfOneKind model edge
 
 -- each kept edge has a model among those that are flagged
 abbrev pub AreModels : List Edge → List ℕ → List Bool → List Bool → Type 0

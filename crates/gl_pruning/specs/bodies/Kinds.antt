@@ -8,6 +8,7 @@ use Rattle.gl_filters.specs.Test.{leads_to, goes_with, kinds_go_together}
 use Rattle.gl_segments.specs.Clocks.{is_before}
 use Rattle.gl_filters.specs.Picked.{edges_of_table}
 use Rattle.gl_index.specs.Indexes.{IsIndexOf}
+use Rattle.gl_pruning.specs.Kinds.{AreOfOneKind}
 use Rattle.gl_pruning.specs.declared.grains.Grain.{Grain}
 use Rattle.gl_pruning.specs.declared.grains.Grain.TheVariants.{ByKind, ByThread, BySegment}
 use Rattle.gl_pruning.specs.declared.rounds.Rounds.{Rounds}
@@ -18,13 +19,9 @@ AreMadeAlike ByKind e f = Unit {0}
 AreMadeAlike ByThread e f = e.thread ≡ f.thread
 AreMadeAlike BySegment e f = (e.thread ≡ f.thread) × ((e.first ≡ f.first) × (e.second ≡ f.second))
 
--- two edges are alike; by kind that is to say that they are of one kind
+-- two edges are alike: of one kind, and the same in what else the grain tells apart
 pub record AreAlike (grain : Grain) (e f : Edge) : Type 0 where
-  pub held : e.held ≡ f.held
-  pub held_mode : e.held_mode ≡ f.held_mode
-  pub wanted : e.wanted ≡ f.wanted
-  pub wanted_mode : e.wanted_mode ≡ f.wanted_mode
-  pub guards : e.guards ≡ f.guards
+  pub of_one_kind : AreOfOneKind e f
   pub made : AreMadeAlike grain e f
 
 -- edges that are alike to these two may stand in one cycle of this mode, as far as the grain tells

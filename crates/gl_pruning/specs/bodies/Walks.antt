@@ -1,16 +1,10 @@
 -- Ways back: walks from the lock that an edge wants to the lock that it holds, and labels of locks, which show that there is none.
-use Rattle.std.specs.Prelude.{◌≡◌, ℕ, ◌+◌, ◌≤◌, Bool, true, List, map, slice_get, Some, nat_eq, unwrap_or}
-use Rattle.std.specs.HashMap.{get}
+use Rattle.std.specs.Prelude.{◌≡◌, ℕ, ◌+◌, ◌≤◌, Bool, true, List, map, slice_get, Some, unwrap_or}
 use Rattle.gl_event.specs.declared.events.Segment.{Segment}
 use Rattle.gl_edges.specs.declared.edge.Edge.{Edge}
 use Rattle.gl_filters.specs.declared.query.Mode.{Mode}
 use Rattle.gl_filters.specs.Test.{goes_with}
 use Rattle.gl_pruning.specs.declared.numbers.Ends.{Ends}
-use Rattle.gl_pruning.specs.declared.numbers.Numbers.{Numbers}
-
--- locks that aren't there have number 0
-abbrev pub number_in : Numbers → ℕ → ℕ
-number_in numbers lock = unwrap_or (get nat_eq numbers.by_lock lock) 0
 
 -- the numbers of the locks of an edge
 abbrev pub ends_in : (ℕ → ℕ) → Edge → Ends

@@ -13,4 +13,4 @@ returns c =
     let s = c.args.self.now in
     let had = c.loop-root.invariant in
     let within = had.within in
-    all_found (sought_by s) s.cap c.loop-root.root _ c.requires.some (omega arith) c.loop-root.invariant
+    all_found (sought_by s) s.cap c.loop-root.root _ c.requires.finishes.some (omega arith) c.loop-root.invariant

@@ -1,6 +1,7 @@
 use Rattle.std.proofs.Common.{ap, ◌∙◌, map, arith}
 use Rattle.std.proofs.lemmas.List.{take_all}
-use Rattle.gl_pruning.specs.bodies.Walks.{number_in, ends_in}
+use Rattle.gl_pruning.specs.bodies.Numbers.{number_in}
+use Rattle.gl_pruning.specs.bodies.Walks.{ends_in}
 use Rattle.gl_pruning.proofs.Back.{ends_of_pairs}
 use Rattle.gl_pruning.proofs.numbers.Numbers.of_edges.Goals as goal
 

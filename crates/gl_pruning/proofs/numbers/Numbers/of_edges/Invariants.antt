@@ -1,5 +1,6 @@
 use Rattle.std.proofs.Common.{◌≡◌, map, take}
-use Rattle.gl_pruning.specs.bodies.Walks.{number_in, ends_in}
+use Rattle.gl_pruning.specs.bodies.Numbers.{number_in}
+use Rattle.gl_pruning.specs.bodies.Walks.{ends_in}
 use Rattle.gl_pruning.proofs.numbers.Numbers.of_edges.Given as goal
 
 -- those of the edges so far
