@@ -7,4 +7,4 @@ pub invariant_of-self-2 : goal.invariant_of-self-2
 invariant_of-self-2 c =
     tabled_more c.self.inside.shipped.items c.self.inside.table c.insert.new.self c.self.inside.worked c.index-pair.result.now c.self.invariant (omega (arith, c.if-self-len.false, c.len.ensures))
     c.index-pair.ensures
-    (c.in_ok-insert.ensures.inserted ∙ ap (λ edge. once (c.self.inside.table ++ (edge, c.index-pair.result.now.1) ∷ [])) c.in_ok-edge.ensures)
+    (c.in_ok-insert.ensures.inserted ∙ ap (λ edge. once (c.self.inside.table ++ (edge, c.index-pair.result.now.1) ∷ [])) c.in_ok-edge.ensures.same)
