@@ -8,10 +8,14 @@ use Rattle.gl_segments.specs.Segments.{Before}
 abbrev pub Clocks : Type 0
 Clocks = List (List (List ℕ))
 
+-- the clock of the segment of this index among those of one thread, without counts where there is none
+abbrev pub clock_at : List (List ℕ) → ℕ → List ℕ
+clock_at clocks index = slice_index_or clocks index []
+
 -- how many segments of this thread are before the segment: none, where the thread or the segment isn't known
 abbrev pub ahead : Clocks → Segment → ℕ → ℕ
 ahead clocks s thread =
-    slice_index_or (slice_index_or (slice_index_or clocks s.thread []) s.index []) thread 0
+    slice_index_or (clock_at (slice_index_or clocks s.thread []) s.index) thread 0
 
 -- the clocks say that a is before b
 abbrev pub is_before : Clocks → Segment → Segment → Bool

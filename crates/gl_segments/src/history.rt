@@ -3,8 +3,9 @@
 //! Along a thread, what is before its segments only grows, and most of its segments add nothing to
 //! it. So a clock is kept for the first segment alone, and then each growth: from which segment on
 //! how many segments of which thread are before.
-ghost use Rattle.std.specs.Prelude.{◌≡◌, ℕ, ◌+◌, ◌<◌, ◌^◌, List, [], ◌∷◌, ◌++◌, length, max, slice_get, slice_index, slice_index_or, slice_set, Some, IfOk, OnOk};
+ghost use Rattle.std.specs.Prelude.{◌≡◌, ℕ, ◌+◌, ◌<◌, ◌^◌, List, [], ◌∷◌, ◌++◌, length, max, slice_get, slice_index, slice_set, Some, IfOk, OnOk};
 ghost use Rattle.std.specs.List.Sorted.{IsNonDecreasingBy};
+ghost use Rattle.gl_segments.specs.Clocks.{clock_at};
 ghost use Rattle.gl_segments.specs.declared.growths.Growth.{Growth};
 ghost use Rattle.gl_segments.specs.bodies.Histories.{count_at, AddsNoClock, AreOrdered, IsNoted, KeepsClocks};
 ghost use Rattle.gl_segments.specs.bodies.Search.{IsAmong, GrowsBy};
@@ -44,7 +45,7 @@ impl History {
     /// How many segments of the other thread are before the segment of this index: 0, where either
     /// isn't known. Takes time as the logarithm of how many growths there are.
     pub fn ahead(&self, index: u32, thread: ThreadId) -> u32
-        ensures { result ≡ slice_index (slice_index_or self.now index []) thread }
+        ensures { result ≡ slice_index (clock_at self.now index) thread }
     {
         if index >= self.segments {
             return 0;
@@ -250,7 +251,7 @@ impl Growing {
         requires { length self.old.latest < 2 ^ 32 }
         ensures still { AddsNoClock self.old self.new }
         ensures latest { OnOk result
-            (IsMerged self.old.latest (slice_index_or other.now index []) self.new.latest
+            (IsMerged self.old.latest (clock_at other.now index) self.new.latest
             (length self.old.latest)) }
         ensures noted { OnOk result (KeepsClocks self.old self.new) }
     {
@@ -265,10 +266,10 @@ impl Growing {
         requires { length self.old.latest < 2 ^ 32 }
         ensures still { AddsNoClock self.old self.new }
         ensures latest { OnOk result
-            (IsMerged self.old.latest (slice_index_or other.now index []) self.new.latest 0) }
+            (IsMerged self.old.latest (clock_at other.now index) self.new.latest 0) }
         ensures reached { OnOk result
             ((k : ℕ) → k < length first.now
-            → IsReached (slice_index_or other.now index []) self.new.latest k
+            → IsReached (clock_at other.now index) self.new.latest k
             (slice_index first.now k)) }
         ensures noted { OnOk result (KeepsClocks self.old self.new) }
     {
@@ -289,10 +290,10 @@ impl Growing {
     ) -> Result<(), AllocError>
         ensures still { AddsNoClock self.old self.new }
         ensures latest { OnOk result
-            (IsMerged self.old.latest (slice_index_or other.now index []) self.new.latest 0) }
+            (IsMerged self.old.latest (clock_at other.now index) self.new.latest 0) }
         ensures reached { OnOk result
             ((p : ℕ) (g : Growth) → slice_get growths.now p ≡ Some g
-            → IsReached (slice_index_or other.now index []) self.new.latest g.thread g.count) }
+            → IsReached (clock_at other.now index) self.new.latest g.thread g.count) }
         ensures noted { OnOk result (KeepsClocks self.old self.new) }
     {
         for at in 0..growths.len() {
@@ -312,9 +313,9 @@ impl Growing {
     ) -> Result<(), AllocError>
         ensures still { AddsNoClock self.old self.new }
         ensures latest { OnOk result
-            (IsMerged self.old.latest (slice_index_or other.now index []) self.new.latest 0) }
+            (IsMerged self.old.latest (clock_at other.now index) self.new.latest 0) }
         ensures reached { OnOk result
-            (IsReached (slice_index_or other.now index []) self.new.latest thread count) }
+            (IsReached (clock_at other.now index) self.new.latest thread count) }
         ensures noted { OnOk result (KeepsClocks self.old self.new) }
     {
         if count <= self.latest.ahead(thread) {

@@ -1,12 +1,14 @@
 //! What a sweep over the steps knows of each thread.
-ghost use Rattle.std.specs.Prelude.{◌≡◌, ◌+◌, ◌<◌, ◌≤◌, ◌^◌, [], length, slice_get, slice_index_or, slice_set, Some, IfOk, OnOk};
+ghost use Rattle.std.specs.Prelude.{◌≡◌, ◌+◌, ◌<◌, ◌≤◌, ◌^◌, false, length, slice_get, slice_set, Some, IfOk, OnOk};
+ghost use Rattle.std.specs.Option.{option_map_or};
 ghost use Rattle.gl_event.specs.declared.events.Segment.{Segment};
+ghost use Rattle.gl_segments.specs.Clocks.{clock_at};
 ghost use Rattle.gl_segments.specs.bodies.Fronts.{first_of};
 ghost use Rattle.gl_segments.specs.bodies.Histories.{AddsNoClock, KeepsClocks};
 ghost use Rattle.gl_segments.specs.bodies.Merging.{raised_to, IsMerged};
 ghost use Rattle.gl_segments.specs.bodies.Rows.{AreClocksTo};
 ghost use Rattle.gl_segments.specs.bodies.Search.{Counts, IsClockOf};
-ghost use Rattle.gl_segments.specs.bodies.Sweeps.{FrontsFit, HaveRows, IsPart, IsRow};
+ghost use Rattle.gl_segments.specs.bodies.Sweeps.{has_ended, FrontsFit, HaveRows, IsPart, IsRow};
 ghost use Rattle.gl_segments.specs.bodies.Tables.{Sources, IsSound, LeadsTo};
 
 use crate::clock::Clock;
@@ -86,7 +88,9 @@ impl Rows {
     }
 
     /// Whether all clocks of the thread are made.
-    pub fn is_ended(&self, thread: ThreadId) -> bool {
+    pub fn is_ended(&self, thread: ThreadId) -> bool
+        ensures { result ≡ option_map_or has_ended (slice_get self.now thread) false }
+    {
         matches!(self.rows.get(thread.number() as usize), Some(Row::Ended(_)))
     }
 
@@ -167,7 +171,7 @@ fn joined(growing: &mut Growing, history: &History, source: Segment) -> Result<(
     ensures still { AddsNoClock growing.old growing.new }
     ensures latest { OnOk result
         (IsMerged (raised_to growing.old.latest source)
-        (slice_index_or history.now source.index []) growing.new.latest
+        (clock_at history.now source.index) growing.new.latest
         (length growing.old.latest)) }
     ensures noted { OnOk result (KeepsClocks growing.old growing.new) }
 {

@@ -1,6 +1,7 @@
 -- The clocks of a thread's segments, by where they grow.
 use Rattle.std.specs.Prelude.{◌≡◌, ◌≢◌, ℕ, zero, suc, ◌+◌, ◌<◌, ◌≤◌, ◌⊎◌, Bool, ◌&&◌, ◌||◌, List, [], ◌∷◌, ◌++◌, All, filter, length, slice_index, slice_index_or, ◌==◌, nat_le, nat_lt, if◌then◌else◌}
 use Rattle.std.specs.List.Sorted.{IsNonDecreasingBy}
+use Rattle.gl_segments.specs.Clocks.{clock_at}
 use Rattle.gl_segments.specs.declared.growths.Growth.{Growth}
 use Rattle.gl_segments.specs.declared.history.Growing.{Growing}
 
@@ -52,7 +53,7 @@ pub record Tells (own : ℕ) (first : List ℕ) (growths : List Growth) (latest 
   -- at each segment, of each other thread, the clock's count
   pub each : (index thread : ℕ) → index < length clocks → thread ≢ own
       → count_at (slice_index first thread) growths index thread
-      ≡ slice_index (slice_index_or clocks index []) thread
+      ≡ slice_index (clock_at clocks index) thread
   -- at the next segment, so far, the latest count
   pub now : (thread : ℕ) → thread ≢ own
       → count_at (slice_index first thread) growths (length clocks) thread
@@ -65,10 +66,10 @@ pub record Tells (own : ℕ) (first : List ℕ) (growths : List Growth) (latest 
   pub begins : length clocks ≡ 0 → growths ≡ []
   -- each clock has as many counts as the latest one
   pub widths : (index : ℕ) → index < length clocks
-      → length (slice_index_or clocks index []) ≡ length latest
+      → length (clock_at clocks index) ≡ length latest
   -- all earlier segments of the thread itself are before each
   pub own_counts : (index : ℕ) → index < length clocks
-      → slice_index (slice_index_or clocks index []) own ≡ index
+      → slice_index (clock_at clocks index) own ≡ index
 
 -- these are the clocks that came
 pub record IsNoted (g : Growing) (clocks : List (List ℕ)) : Type 0 where

@@ -1,7 +1,7 @@
 -- The clocks of one thread's segments.
 use Rattle.std.specs.Prelude.{◌≡◌, ℕ, ◌<◌, List, [], ◌∷◌, length, slice_index_or}
 use Rattle.gl_event.specs.declared.events.Segment.{Segment}
-use Rattle.gl_segments.specs.Clocks.{Clocks}
+use Rattle.gl_segments.specs.Clocks.{Clocks, clock_at}
 use Rattle.gl_segments.specs.Segments.{Leads}
 use Rattle.gl_segments.specs.bodies.Tables.{Sources, steps_of_thread, LeadsTo, Precedes}
 use Rattle.gl_segments.specs.bodies.Search.{IsClockOf}
@@ -15,7 +15,7 @@ pub record AreClocksBelow (steps : Sources) (thread : ℕ) (clocks : List (List 
   pub size : length clocks ≡ n
   -- each is its segment's clock
   pub each : (i : ℕ) → i < n
-      → IsClockOf steps (slice_index_or clocks i []) (record { thread = thread; index = i })
+      → IsClockOf steps (clock_at clocks i) (record { thread = thread; index = i })
   -- no segment of them is before itself
   pub apart : (i : ℕ) → i < n
       → ¬ Precedes steps (record { thread = thread; index = i })

@@ -1,5 +1,5 @@
 -- What a sweep over the steps knows of each thread.
-use Rattle.std.specs.Prelude.{◌≡◌, ℕ, ◌-◌, ◌<◌, ◌≤◌, List, Some, length, Contains, slice_get}
+use Rattle.std.specs.Prelude.{◌≡◌, ℕ, ◌-◌, ◌<◌, ◌≤◌, Bool, true, false, List, Some, length, Contains, slice_get}
 use Rattle.std.specs.Global.{Vec}
 use Rattle.gl_event.specs.declared.events.Segment.{Segment}
 use Rattle.gl_segments.specs.declared.history.Growing.{Growing}
@@ -41,6 +41,12 @@ abbrev pub IsRow : Sources → ℕ → Row → Type 0
 IsRow steps thread (Waiting front) = IsFront steps front.items (first_of thread)
 IsRow steps thread (Begun growing) = IsGrowing steps thread growing
 IsRow steps thread (Ended history) = AreClocksOf steps thread history
+
+-- all clocks of the thread are made
+abbrev pub has_ended : Row → Bool
+has_ended (Waiting front) = false
+has_ended (Begun growing) = false
+has_ended (Ended history) = true
 
 -- what is known of each thread
 abbrev pub HaveRows : Sources → List Row → Type 0
