@@ -1,4 +1,5 @@
 pub mod AllCycles
+pub mod Cycles
 pub mod Faults
 pub mod Laws
 pub mod Listed

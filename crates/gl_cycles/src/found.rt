@@ -1,5 +1,6 @@
 //! What a search finds.
-ghost use Rattle.std.specs.Prelude.{◌≡◌, ◌+◌, List, ℕ, map, take};
+ghost use Rattle.std.specs.Prelude.{◌≡◌, ◌+◌, List, ℕ, take};
+ghost use Rattle.gl_cycles.specs.Cycles.{cycles_in};
 ghost use Rattle.gl_cycles.specs.Listed.{listed};
 
 use gl_edges::EdgeList;
@@ -28,21 +29,21 @@ impl Model for Cycles {
 impl Cycles {
     /// These cycles.
     pub fn from_vec(cycles: Vec<Vec<usize>>) -> Cycles
-        ensures { result ≡ map (λ cycle. cycle.items) cycles.items }
+        ensures { result ≡ cycles_in cycles.items }
     {
         Cycles { cycles }
     }
 
     /// The cycles, in order.
     pub fn as_slice(&self) -> &[Vec<usize>]
-        ensures { map (λ cycle. cycle.items) result.now ≡ self.now }
+        ensures { cycles_in result.now ≡ self.now }
     {
         &self.cycles
     }
 
     /// The cycles, in order.
     pub fn into_vec(self) -> Vec<Vec<usize>>
-        ensures { map (λ cycle. cycle.items) result.items ≡ self }
+        ensures { cycles_in result.items ≡ self }
     {
         self.cycles
     }
@@ -61,7 +62,7 @@ impl Found {
     /// What is listed of all cycles, of which these are the first ones, up to one more than may be listed.
     pub fn listed(cycles: Vec<Vec<usize>>, max: usize) -> Found
         ensures { (all : List (List ℕ))
-            → map (λ cycle. cycle.items) cycles.items ≡ take (max + 1) all
+            → cycles_in cycles.items ≡ take (max + 1) all
             → result ≡ listed max all }
     {
         let mut cycles = cycles;

@@ -1,7 +1,8 @@
 //! The last round of a search, on several threads.
-ghost use Rattle.std.specs.Prelude.{◌≡◌, map, take, IfOk};
+ghost use Rattle.std.specs.Prelude.{◌≡◌, take, IfOk};
 ghost use Rattle.gl_segments.specs.Clocks.{is_before};
 ghost use Rattle.gl_filters.specs.Picked.{edges_of_table};
+ghost use Rattle.gl_cycles.specs.Cycles.{cycles_in};
 ghost use Rattle.gl_cycles.specs.AllCycles.{all_cycles};
 ghost use Rattle.gl_cycles.specs.bodies.Searching.{CanFinish, HasFound, sought_by};
 
@@ -55,9 +56,9 @@ pub(crate) fn first_cycles(
 ) -> Result<Vec<Vec<usize>>, Memory>
     requires finishes { CanFinish search.now }
     requires found { HasFound (sought_by search.now) search.now.cap from
-        (map (λ cycle. cycle.items) found.items) }
+        (cycles_in found.items) }
     ensures { IfOk result
-        (λ found. map (λ cycle. cycle.items) found.items
+        (λ found. cycles_in found.items
         ≡ take search.now.cap
         (all_cycles (is_before search.now.order.now) search.now.mode search.now.len
         (edges_of_table search.now.table.now))) }

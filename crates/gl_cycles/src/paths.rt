@@ -1,10 +1,11 @@
 //! Paths of edges that lead on from each other, grown from each edge.
-ghost use Rattle.std.specs.Prelude.{◌≡◌, ◌+◌, ◌<◌, ◌≤◌, [], ◌∷◌, ◌++◌, true, false, Some, length, map, take, slice_get, nat_le, if◌then◌else◌, IfOk, IfErr, IfSome, OnOk, All};
+ghost use Rattle.std.specs.Prelude.{◌≡◌, ◌+◌, ◌<◌, ◌≤◌, [], ◌∷◌, ◌++◌, true, false, Some, length, take, slice_get, nat_le, if◌then◌else◌, IfOk, IfErr, IfSome, OnOk, All};
 ghost use Rattle.gl_filters.specs.declared.lengths.TheConstants.{LONGEST};
 ghost use Rattle.gl_segments.specs.Clocks.{is_before};
 ghost use Rattle.std.specs.List.{list_all};
 ghost use Rattle.gl_filters.specs.Test.{can_follow, goes_with, leads_back, is_path};
 ghost use Rattle.gl_filters.specs.Picked.{edges_of_table, picked};
+ghost use Rattle.gl_cycles.specs.Cycles.{cycles_in};
 ghost use Rattle.gl_cycles.specs.AllCycles.{all_cycles};
 ghost use Rattle.gl_pruning.specs.Sought.{KeepsSought};
 ghost use Rattle.gl_cycles.specs.bodies.Searching.{CanFinish, IsReady, HasFound, HasGrown, all_from, first_from, sought_by};
@@ -125,9 +126,9 @@ impl Searcher<'_> {
     ) -> Result<Vec<Vec<usize>>, Memory>
         requires finishes { CanFinish self.now }
         requires found { HasFound (sought_by self.now) self.now.cap from
-            (map (λ cycle. cycle.items) found.items) }
+            (cycles_in found.items) }
         ensures { IfOk result
-            (λ found. map (λ cycle. cycle.items) found.items
+            (λ found. cycles_in found.items
             ≡ take self.now.cap
             (all_cycles (is_before self.now.order.now) self.now.mode self.now.len
             (edges_of_table self.now.table.now))) }
@@ -150,10 +151,10 @@ impl Searcher<'_> {
         requires some { 0 < self.now.len }
         requires ready { IsReady self.now }
         requires found { HasFound (sought_by self.now) self.now.cap from
-            (map (λ cycle. cycle.items) found.old.items) }
+            (cycles_in found.old.items) }
         ensures { IfOk result
             (λ to. HasFound (sought_by self.now) self.now.cap to
-            (map (λ cycle. cycle.items) found.new.items)) }
+            (cycles_in found.new.items)) }
     {
         let mut steps = effort;
         for root in from..self.table.len() {
@@ -177,15 +178,15 @@ impl Searcher<'_> {
         requires ready { IsReady self.now }
         requires there { root < length self.now.table.now }
         requires found { HasFound (sought_by self.now) self.now.cap root
-            (map (λ cycle. cycle.items) found.old.items) }
+            (cycles_in found.old.items) }
         ensures more { IfOk result
             (λ is. is ≡ true
             → HasFound (sought_by self.now) self.now.cap (root + 1)
-            (map (λ cycle. cycle.items) found.new.items)) }
+            (cycles_in found.new.items)) }
         ensures same { IfOk result
             (λ is. is ≡ false
             → HasFound (sought_by self.now) self.now.cap root
-            (map (λ cycle. cycle.items) found.new.items)) }
+            (cycles_in found.new.items)) }
     {
         if found.len() >= self.cap {
             return Ok(true);
@@ -210,7 +211,7 @@ impl Searcher<'_> {
         requires there { root < length self.now.table.now }
         ensures { IfOk result
             (λ cycles. IfSome cycles
-            (λ found. map (λ cycle. cycle.items) found.items ≡ first_from self.now root)) }
+            (λ found. cycles_in found.items ≡ first_from self.now root)) }
     {
         let mut found = Vec::new(alloc);
         match self.grow_from(alloc, root, steps, &mut found) {
@@ -232,9 +233,9 @@ impl Searcher<'_> {
         requires there { root < length self.now.table.now }
         requires room { length found.old.items ≤ self.now.cap }
         ensures { OnOk result
-            (map (λ cycle. cycle.items) found.new.items
+            (cycles_in found.new.items
             ≡ take self.now.cap
-            (map (λ cycle. cycle.items) found.old.items ++ all_from self.now (root ∷ []))) }
+            (cycles_in found.old.items ++ all_from self.now (root ∷ []))) }
     {
         let mut steps = 0;
         match self.grow_from(alloc, root, &mut steps, found) {
@@ -256,8 +257,8 @@ impl Searcher<'_> {
         requires there { root < length self.now.table.now }
         requires ready { IsReady self.now }
         requires room { length found.old.items ≤ self.now.cap }
-        ensures { HasGrown self.now (root ∷ []) (map (λ cycle. cycle.items) found.old.items)
-            (map (λ cycle. cycle.items) found.new.items) result }
+        ensures { HasGrown self.now (root ∷ []) (cycles_in found.old.items)
+            (cycles_in found.new.items) result }
     {
         if !self.kept[root] {
             return Ok(());
@@ -281,8 +282,8 @@ impl Searcher<'_> {
             (picked (edges_of_table self.now.table.now) path.now) ≡ true }
         requires ready { IsReady self.now }
         requires room { length found.old.items ≤ self.now.cap }
-        ensures { HasGrown self.now path.now (map (λ cycle. cycle.items) found.old.items)
-            (map (λ cycle. cycle.items) found.new.items) result }
+        ensures { HasGrown self.now path.now (cycles_in found.old.items)
+            (cycles_in found.new.items) result }
     {
         if found.len() >= self.cap {
             return Ok(());
@@ -324,8 +325,8 @@ impl Searcher<'_> {
             ≡ false }
         requires ready { IsReady self.now }
         requires room { length found.old.items ≤ self.now.cap }
-        ensures { HasGrown self.now path.now (map (λ cycle. cycle.items) found.old.items)
-            (map (λ cycle. cycle.items) found.new.items) result }
+        ensures { HasGrown self.now path.now (cycles_in found.old.items)
+            (cycles_in found.new.items) result }
     {
         let first = path[0];
         let last = path[path.len() - 1];
@@ -357,8 +358,7 @@ impl Searcher<'_> {
         requires ready { IsReady self.now }
         requires room { length found.old.items ≤ self.now.cap }
         ensures { HasGrown self.now (path.now ++ next ∷ [])
-            (map (λ cycle. cycle.items) found.old.items)
-            (map (λ cycle. cycle.items) found.new.items) result }
+            (cycles_in found.old.items) (cycles_in found.new.items) result }
     {
         spend_step(self.is_bound, steps)?;
         if !self.can_join(path, next) {
@@ -372,8 +372,8 @@ impl Searcher<'_> {
 // Adds a closed path, which is a cycle if it has two edges or more.
 fn keep_closed(alloc: Global, path: &[usize], found: &mut Vec<Vec<usize>>) -> Result<(), Memory>
     ensures { OnOk result
-        (map (λ cycle. cycle.items) found.new.items
-        ≡ map (λ cycle. cycle.items) found.old.items ++
+        (cycles_in found.new.items
+        ≡ cycles_in found.old.items ++
         (if nat_le 2 (length path.now) then path.now ∷ [] else [])) }
 {
     if path.len() < 2 {

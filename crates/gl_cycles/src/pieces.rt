@@ -1,6 +1,7 @@
 //! Cycles that were found apart, put together.
-ghost use Rattle.std.specs.Prelude.{◌≡◌, ◌≤◌, ◌++◌, ◌∷◌, [], length, map, take, OnOk};
+ghost use Rattle.std.specs.Prelude.{◌≡◌, ◌≤◌, ◌++◌, ◌∷◌, [], length, take, OnOk};
 ghost use Rattle.std.specs.List.{flat_map};
+ghost use Rattle.gl_cycles.specs.Cycles.{cycles_in};
 
 use gl_event::Memory;
 use std::alloc::Global;
@@ -14,8 +15,8 @@ fn add_cycle(
 ) -> Result<(), Memory>
     requires { length found.old.items ≤ cap }
     ensures { OnOk result
-        (map (λ cycle. cycle.items) found.new.items
-        ≡ take cap (map (λ cycle. cycle.items) found.old.items ++ cycle.now ∷ [])) }
+        (cycles_in found.new.items
+        ≡ take cap (cycles_in found.old.items ++ cycle.now ∷ [])) }
 {
     if found.len() >= cap {
         return Ok(());
@@ -34,9 +35,9 @@ pub(crate) fn add_cycles(
 ) -> Result<(), Memory>
     requires { length found.old.items ≤ cap }
     ensures { OnOk result
-        (map (λ cycle. cycle.items) found.new.items
+        (cycles_in found.new.items
         ≡ take cap
-        (map (λ cycle. cycle.items) found.old.items ++ map (λ cycle. cycle.items) piece.now)) }
+        (cycles_in found.old.items ++ cycles_in piece.now)) }
 {
     for i in 0..piece.len() {
         add_cycle(alloc, found, &piece[i], cap)?;
@@ -53,10 +54,10 @@ pub(crate) fn add_pieces(
 ) -> Result<(), Memory>
     requires { length found.old.items ≤ cap }
     ensures { OnOk result
-        (map (λ cycle. cycle.items) found.new.items
+        (cycles_in found.new.items
         ≡ take cap
-        (map (λ cycle. cycle.items) found.old.items ++ flat_map
-        (λ piece. map (λ cycle. cycle.items) piece.items) pieces.now)) }
+        (cycles_in found.old.items ++ flat_map
+        (λ piece. cycles_in piece.items) pieces.now)) }
 {
     for i in 0..pieces.len() {
         add_cycles(alloc, found, &pieces[i], cap)?;

@@ -5,6 +5,7 @@
 //! to its end, so that what is found, and in which order, doesn't depend on the threads.
 ghost use Rattle.std.specs.Prelude.{◌≡◌, ◌-◌, ◌<◌, ◌≤◌, ◌++◌, ℕ, List, length, map, take, IfOk, OnOk};
 ghost use Rattle.std.specs.List.{range_with_len};
+ghost use Rattle.gl_cycles.specs.Cycles.{cycles_in};
 ghost use Rattle.gl_cycles.specs.Roots.{first_below};
 ghost use Rattle.gl_cycles.specs.bodies.Dealt.{first_with};
 
@@ -47,9 +48,9 @@ pub trait RootedSearch {
         requires there { root < roots self.now }
         requires room { length found.old.items ≤ cap self.now }
         ensures { OnOk result
-            (map (λ cycle. cycle.items) found.new.items
+            (cycles_in found.new.items
             ≡ take (cap self.now)
-            (map (λ cycle. cycle.items) found.old.items ++ found_from self.now root)) };
+            (cycles_in found.old.items ++ found_from self.now root)) };
 }
 
 // What there is from a root, up to the cap.
@@ -61,7 +62,7 @@ fn found_from<S: RootedSearch>(
     requires ready { S.IsReady search.now }
     requires there { root < S.roots search.now }
     ensures { IfOk result
-        (λ found. map (λ cycle. cycle.items) found.items
+        (λ found. cycles_in found.items
         ≡ take (S.cap search.now) (S.found_from search.now root)) }
 {
     let mut found = Vec::new(alloc);
@@ -80,7 +81,7 @@ fn found_from_each<R: Threads + Sync, S: RootedSearch + Sync>(
     requires ready { S.IsReady search.now }
     requires within { to ≤ S.roots search.now }
     ensures { IfOk result
-        (λ pieces. map (λ piece. map (λ cycle. cycle.items) piece.items) pieces.items
+        (λ pieces. map (λ piece. cycles_in piece.items) pieces.items
         ≡ map (λ root. take (S.cap search.now) (S.found_from search.now root))
         (range_with_len from (to - from))) }
 {
@@ -90,7 +91,7 @@ fn found_from_each<R: Threads + Sync, S: RootedSearch + Sync>(
             |root: usize| -> Result<Vec<Vec<usize>>, Memory>
                 requires { S.IsReady search.now × (root < S.roots search.now) }
                 ensures { IfOk result
-                    (λ found. map (λ cycle. cycle.items) found.items
+                    (λ found. cycles_in found.items
                     ≡ take (S.cap search.entry.now) (S.found_from search.entry.now root)) }
             { found_from(alloc, search, root) },
         )
@@ -114,9 +115,9 @@ fn add_run<R: Threads + Sync, S: RootedSearch + Sync>(
     requires within { to ≤ S.roots search.now }
     requires room { length found.old.items ≤ S.cap search.now }
     ensures { OnOk result
-        (map (λ cycle. cycle.items) found.new.items
+        (cycles_in found.new.items
         ≡ first_with (S.cap search.now) (S.found_from search.now)
-        (map (λ cycle. cycle.items) found.old.items) from to) }
+        (cycles_in found.old.items) from to) }
 {
     let cap = search.cap();
     if found.len() >= cap {
@@ -142,9 +143,9 @@ fn add_alone<S: RootedSearch>(
     requires within { to ≤ S.roots search.now }
     requires room { length found.old.items ≤ S.cap search.now }
     ensures { OnOk result
-        (map (λ cycle. cycle.items) found.new.items
+        (cycles_in found.new.items
         ≡ first_with (S.cap search.now) (S.found_from search.now)
-        (map (λ cycle. cycle.items) found.old.items) from to) }
+        (cycles_in found.old.items) from to) }
 {
     for root in from..to {
         search.add_found_from(alloc, root, found)?;
@@ -168,10 +169,10 @@ pub fn found_by_roots<R: Threads + Sync, S: RootedSearch + Sync>(
     requires ready { S.IsReady search.now }
     requires some { 0 < alone }
     requires within { from ≤ S.roots search.now }
-    requires found { map (λ cycle. cycle.items) found.items
+    requires found { cycles_in found.items
         ≡ first_below (S.cap search.now) (S.found_from search.now) from }
     ensures { IfOk result
-        (λ found. map (λ cycle. cycle.items) found.items
+        (λ found. cycles_in found.items
         ≡ first_below (S.cap search.now) (S.found_from search.now) (S.roots search.now)) }
 {
     let size = search.roots();

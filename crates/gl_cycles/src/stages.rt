@@ -12,9 +12,10 @@
 //! In each round edges are left out for one reason after the other. Before the last round the efforts
 //! are bound, so what comes too dear is tried again. In the last one edges are left out with all the
 //! effort that each reason makes at most, and the search then goes on to its end.
-ghost use Rattle.std.specs.Prelude.{◌≡◌, ◌<◌, ◌≤◌, map, take, IfOk, OnOk};
+ghost use Rattle.std.specs.Prelude.{◌≡◌, ◌<◌, ◌≤◌, take, IfOk, OnOk};
 ghost use Rattle.gl_segments.specs.Clocks.{is_before};
 ghost use Rattle.gl_filters.specs.Picked.{edges_of_table};
+ghost use Rattle.gl_cycles.specs.Cycles.{cycles_in};
 ghost use Rattle.gl_cycles.specs.AllCycles.{all_cycles};
 ghost use Rattle.gl_pruning.specs.Sought.{KeepsSought};
 ghost use Rattle.gl_cycles.specs.bodies.Searching.{HasFound};
@@ -70,9 +71,9 @@ fn search_on(
     requires some { 0 < sought.now.len }
     requires fits { sought.now.len ≤ LONGEST }
     requires kept { KeepsSought sought.now kept.now }
-    requires found { HasFound sought.now cap from (map (λ cycle. cycle.items) found.old.items) }
+    requires found { HasFound sought.now cap from (cycles_in found.old.items) }
     ensures { IfOk result
-        (λ to. HasFound sought.now cap to (map (λ cycle. cycle.items) found.new.items)) }
+        (λ to. HasFound sought.now cap to (cycles_in found.new.items)) }
 {
     let kept = Vec::from_slice(alloc, kept)?;
     let search = Searcher::of(alloc, sought, cap, true, kept)?;
@@ -91,10 +92,10 @@ fn search_in_rounds(
     requires some { 0 < sought.now.len }
     requires fits { sought.now.len ≤ LONGEST }
     requires kept { KeepsSought sought.now kept.old.items }
-    requires found { HasFound sought.now cap 0 (map (λ cycle. cycle.items) found.old.items) }
+    requires found { HasFound sought.now cap 0 (cycles_in found.old.items) }
     ensures kept { OnOk result (KeepsSought sought.now kept.new.items) }
     ensures found { IfOk result
-        (λ to. HasFound sought.now cap to (map (λ cycle. cycle.items) found.new.items)) }
+        (λ to. HasFound sought.now cap to (cycles_in found.new.items)) }
 {
     let mut root = 0;
     for round in 0..LAST {
@@ -118,7 +119,7 @@ pub(crate) fn first_cycles(
     requires some { 0 < sought.now.len }
     requires fits { sought.now.len ≤ LONGEST }
     ensures { IfOk result
-        (λ found. map (λ cycle. cycle.items) found.items
+        (λ found. cycles_in found.items
         ≡ take cap
         (all_cycles (is_before sought.now.order.now) sought.now.mode sought.now.len
         (edges_of_table sought.now.table.now))) }
@@ -145,7 +146,7 @@ pub(crate) fn first_cycles_parallel(
     requires some { 0 < sought.now.len }
     requires fits { sought.now.len ≤ LONGEST }
     ensures { IfOk result
-        (λ found. map (λ cycle. cycle.items) found.items
+        (λ found. cycles_in found.items
         ≡ take cap
         (all_cycles (is_before sought.now.order.now) sought.now.mode sought.now.len
         (edges_of_table sought.now.table.now))) }

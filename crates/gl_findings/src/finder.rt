@@ -1,7 +1,8 @@
 //! The search of signatures: they grow class by class.
-ghost use Rattle.std.specs.Prelude.{◌≡◌, ◌+◌, ◌-◌, ◌<◌, ◌≤◌, [], ◌∷◌, ◌++◌, ℕ, length, map, take, false, IfErr, IfOk, IfSome, OnOk, All};
+ghost use Rattle.std.specs.Prelude.{◌≡◌, ◌+◌, ◌-◌, ◌<◌, ◌≤◌, [], ◌∷◌, ◌++◌, ℕ, length, take, false, IfErr, IfOk, IfSome, OnOk, All};
 ghost use Rattle.gl_segments.specs.Clocks.{is_before};
 ghost use Rattle.gl_filters.specs.declared.steps.Stop.TheVariants.{Memory};
+ghost use Rattle.gl_cycles.specs.Cycles.{cycles_in};
 ghost use Rattle.gl_findings.specs.Findings.{findings};
 ghost use Rattle.gl_findings.specs.bodies.Finding.{AreAdded, IsReady, IsUnbound, finding_of, block_of, below_of};
 ghost use Rattle.gl_findings.specs.bodies.Told.{AreGrounds};
@@ -116,7 +117,7 @@ impl Finder<'_> {
         requires ready { IsReady self.now }
         ensures { IfOk result
             (λ found. IfSome found
-            (λ shown. map (λ cycle. cycle.items) shown.items
+            (λ shown. cycles_in shown.items
             ≡ take self.now.cap
             (findings (is_before self.now.order.now) self.now.mode self.now.len
             self.now.table.now))) }
@@ -135,7 +136,7 @@ impl Finder<'_> {
         requires ready { IsReady self.now }
         requires unbound { IsUnbound self.now }
         ensures { IfOk result
-            (λ found. map (λ cycle. cycle.items) found.items
+            (λ found. cycles_in found.items
             ≡ take self.now.cap
             (findings (is_before self.now.order.now) self.now.mode self.now.len
             self.now.table.now)) }
@@ -162,8 +163,7 @@ impl Finder<'_> {
         requires room { length found.old.items ≤ self.now.cap }
         ensures { OnOk result
             (AreAdded self.now (block_of self.now (self.now.len - 1) (class ∷ []))
-            (map (λ cycle. cycle.items) found.old.items)
-            (map (λ cycle. cycle.items) found.new.items)) }
+            (cycles_in found.old.items) (cycles_in found.new.items)) }
     {
         let mut steps = 0;
         match self.grow_by(alloc, &[], class, &mut steps, found) {
@@ -190,8 +190,7 @@ impl Finder<'_> {
         ensures grown { OnOk result
             (AreAdded self.now
             (block_of self.now (self.now.len - length signature.now) signature.now)
-            (map (λ cycle. cycle.items) found.old.items)
-            (map (λ cycle. cycle.items) found.new.items)) }
+            (cycles_in found.old.items) (cycles_in found.new.items)) }
         ensures stopped { IfErr result (λ stop. IsUnbound self.now → stop ≡ Memory) }
     {
         if found.len() >= self.cap {
@@ -227,8 +226,7 @@ impl Finder<'_> {
             (AreAdded self.now
             (below_of self.now (self.now.len - length signature.now - 1) signature.now
             (length self.now.table.now))
-            (map (λ cycle. cycle.items) found.old.items)
-            (map (λ cycle. cycle.items) found.new.items)) }
+            (cycles_in found.old.items) (cycles_in found.new.items)) }
         ensures stopped { IfErr result (λ stop. IsUnbound self.now → stop ≡ Memory) }
     {
         let mut next = self.next[from];
@@ -258,8 +256,7 @@ impl Finder<'_> {
             (AreAdded self.now
             (block_of self.now (self.now.len - length signature.now - 1)
             (signature.now ++ class ∷ []))
-            (map (λ cycle. cycle.items) found.old.items)
-            (map (λ cycle. cycle.items) found.new.items)) }
+            (cycles_in found.old.items) (cycles_in found.new.items)) }
         ensures stopped { IfErr result (λ stop. IsUnbound self.now → stop ≡ Memory) }
     {
         let longer = longer(signature, class);
@@ -299,8 +296,8 @@ impl Finder<'_> {
         requires short { length signature.now ≤ self.now.len }
         requires ready { IsReady self.now }
         ensures grown { OnOk result
-            (map (λ cycle. cycle.items) found.new.items
-            ≡ map (λ cycle. cycle.items) found.old.items ++ finding_of self.now signature.now) }
+            (cycles_in found.new.items
+            ≡ cycles_in found.old.items ++ finding_of self.now signature.now) }
         ensures stopped { IfErr result (λ stop. IsUnbound self.now → stop ≡ Memory) }
     {
         if signature.len() < 2 {
@@ -319,8 +316,8 @@ impl Finder<'_> {
 // Adds the cycle that shows a finding.
 fn keep(found: &mut Vec<Vec<usize>>, cycle: Vec<usize>) -> Result<(), Memory>
     ensures { OnOk result
-        (map (λ cycle. cycle.items) found.new.items
-        ≡ map (λ cycle. cycle.items) found.old.items ++ cycle.items ∷ []) }
+        (cycles_in found.new.items
+        ≡ cycles_in found.old.items ++ cycle.items ∷ []) }
 {
     found.push(cycle)?;
     Ok(())

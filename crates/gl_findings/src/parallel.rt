@@ -1,6 +1,7 @@
 //! The search on several threads.
-ghost use Rattle.std.specs.Prelude.{◌≡◌, map, take, IfOk};
+ghost use Rattle.std.specs.Prelude.{◌≡◌, take, IfOk};
 ghost use Rattle.gl_segments.specs.Clocks.{is_before};
+ghost use Rattle.gl_cycles.specs.Cycles.{cycles_in};
 ghost use Rattle.gl_findings.specs.Findings.{findings};
 ghost use Rattle.gl_findings.specs.bodies.Finding.{IsReady, IsUnbound};
 
@@ -61,7 +62,7 @@ pub(crate) fn first_findings(
     requires ready { IsReady finder.now }
     requires unbound { IsUnbound finder.now }
     ensures { IfOk result
-        (λ found. map (λ cycle. cycle.items) found.items
+        (λ found. cycles_in found.items
         ≡ take finder.now.cap
         (findings (is_before finder.now.order.now) finder.now.mode finder.now.len
         finder.now.table.now)) }
