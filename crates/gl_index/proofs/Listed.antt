@@ -39,6 +39,7 @@ none_past key edges kept k n at_end = record {
   from = omega arith;
   within = omega arith;
   holds = tt;
+  chosen = tt;
   skipped = λ i e from below at. absurd (omega arith);
 }
 
@@ -52,13 +53,14 @@ none_listed key edges kept n first next at_end long none = record {
 
 module _ {K : Type 0} (key : Edge → K) (edges : List Edge) (kept : List Bool) (n : ℕ) (e : Edge) (at : slice_get edges n ≡ Some e) where
   -- an edge with the key is the first from its position on
-  next_here : (k : K) → key e ≡ k → IsNextWith key edges kept k n (Some n)
-  next_here k same =
+  next_here : (k : K) → key e ≡ k → ¬ (slice_get kept n ≡ Some false) → IsNextWith key edges kept k n (Some n)
+  next_here k same keep =
       let within = slice_get_within edges n e at in
       record {
         from = omega arith;
         within = omega arith;
         holds = (within, λ f there. ap key (same_Some f e (sym there ∙ at)) ∙ same);
+        chosen = keep;
         skipped = λ i f from below there. absurd (omega arith);
       }
 
@@ -70,6 +72,7 @@ module _ {K : Type 0} (key : Edge → K) (edges : List Edge) (kept : List Bool) 
         from = omega arith;
         within = later.within;
         holds = later.holds;
+        chosen = later.chosen;
         skipped = λ i f from_n below there.
             elim (cases_eq i n) [
               | inl same ↦
@@ -115,12 +118,12 @@ module _ {K : Type 0} (key : Edge → K) (edges : List Edge) (kept : List Bool) 
     }
 
     -- an edge that is kept
-    pub listed_more : (same : K → K → Bool) → Tells same → ((k : K) → more k ≡ cond (same (key e) k) (Some n) (first k)) → AreListed key edges kept n more after
-    listed_more same tells updated = record {
+    pub listed_more : (same : K → K → Bool) → Tells same → ((k : K) → more k ≡ cond (same (key e) k) (Some n) (first k)) → ¬ (slice_get kept n ≡ Some false) → AreListed key edges kept n more after
+    listed_more same tells updated keep = record {
       long = has_long;
       begins = λ k.
           elim (tells (key e) k) [
-            | inl is ↦ subst (IsNextWith key edges kept k n) (sym (updated k ∙ ap (λ b. cond b (Some n) (first k)) is.0)) (next_here k is.1)
+            | inl is ↦ subst (IsNextWith key edges kept k n) (sym (updated k ∙ ap (λ b. cond b (Some n) (first k)) is.0)) (next_here k is.1 keep)
             | inr other ↦ subst (IsNextWith key edges kept k n) (sym (updated k ∙ ap (λ b. cond b (Some n) (first k)) other.0)) (next_later k (first k) (inl other.1) (had.begins k))
           ];
       goes_on = leads_from;

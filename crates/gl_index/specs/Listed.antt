@@ -2,7 +2,7 @@
 use Rattle.std.specs.Prelude.{◌≡◌, ◌≢◌, ℕ, ◌+◌, ◌<◌, ◌≤◌, ◌⊎◌, Bool, false, List, length, Option, Some, IfSome, slice_get, unwrap_or}
 use Rattle.gl_edges.specs.declared.edge.Edge.{Edge}
 
--- the answer is the next position from n on of an edge with this key that is kept; others may come in between
+-- the answer is the next position from n on of an edge with this key that isn't left out, or none where there is none
 pub record IsNextWith {K : Type 0} (key : Edge → K) (edges : List Edge) (kept : List Bool) (k : K)
     (n : ℕ) (next : Option ℕ) : Type 0 where
   -- it is n or later
@@ -11,6 +11,8 @@ pub record IsNextWith {K : Type 0} (key : Edge → K) (edges : List Edge) (kept 
   -- the edge there has the key
   pub holds : IfSome next
       (λ i. (i < length edges) × ((e : Edge) → slice_get edges i ≡ Some e → key e ≡ k))
+  -- and isn't left out
+  pub chosen : IfSome next (λ i. ¬ (slice_get kept i ≡ Some false))
   -- the edges before it don't, or are left out
   pub skipped : (i : ℕ) (e : Edge) → n ≤ i → i < unwrap_or next (length edges)
       → slice_get edges i ≡ Some e → (key e ≢ k) ⊎ (slice_get kept i ≡ Some false)

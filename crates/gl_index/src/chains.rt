@@ -1,5 +1,5 @@
 //! An index of edges by one of their locks.
-ghost use Rattle.std.specs.Prelude.{◌≡◌, ◌+◌, ◌<◌, ℕ, Bool, false, List, length, slice_get, vec_len, Some, IfOk, OnOk};
+ghost use Rattle.std.specs.Prelude.{◌≡◌, ◌↔◌, ◌+◌, ◌<◌, ℕ, Bool, false, List, length, slice_get, vec_len, Some, IfOk, OnOk};
 ghost use Rattle.gl_filters.specs.Picked.{edges_of_table};
 ghost use Rattle.gl_index.specs.Listed.{IsNextWith};
 ghost use Rattle.gl_index.specs.Indexes.{AreChained, AreChainedKept};
@@ -63,7 +63,7 @@ impl Chain {
         ensures { (edges : List Edge) (kept : List Bool) (side : Side) (e : Edge)
             → AreChainedKept side edges kept (i + 1) self.old
             → slice_get edges i ≡ Some e → lock_towards side e ≡ lock
-            → (is_kept ≡ false → slice_get kept i ≡ Some false)
+            → (is_kept ≡ false ↔ slice_get kept i ≡ Some false)
             → OnOk result (AreChainedKept side edges kept i self.new) }
     {
         self.next[i] = self.first.get(&lock).copied();
@@ -97,7 +97,7 @@ impl Chain {
 
 // Whether the edge at a position is kept.
 pub(crate) fn is_kept(kept: &[bool], i: usize) -> bool
-    ensures { result ≡ false → slice_get kept.now i ≡ Some false }
+    ensures { result ≡ false ↔ slice_get kept.now i ≡ Some false }
 {
     kept.get(i).copied().unwrap_or(true)
 }

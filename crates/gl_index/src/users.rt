@@ -1,8 +1,8 @@
 //! Which threads use each lock.
-ghost use Rattle.std.specs.Prelude.{◌≡◌, ℕ, true, length, IsTrue, IfOk, OnOk};
+ghost use Rattle.std.specs.Prelude.{◌≡◌, ◌↔◌, ℕ, true, false, length, IsTrue, IfOk, OnOk};
 ghost use Rattle.gl_filters.specs.Picked.{edges_of_table};
 ghost use Rattle.gl_index.specs.Sides.{lock_towards};
-ghost use Rattle.gl_index.specs.Users.{MayUse, NoneUse, AreUsers};
+ghost use Rattle.gl_index.specs.Users.{AddsUser, AreUsers, MayUse, NoneUse, UseAsKnown};
 
 use crate::chains::is_kept;
 use crate::sides::Side;
@@ -30,8 +30,11 @@ impl Users {
         side: Side,
         kept: &[bool],
     ) -> Result<Users, Memory>
-        ensures { IfOk result
+        ensures users { IfOk result
             (λ users. AreUsers side (edges_of_table table.now) kept.now
+            (length table.now) users) }
+        ensures known { IfOk result
+            (λ users. UseAsKnown side (edges_of_table table.now) kept.now
             (length table.now) users) }
     {
         let mut users = Users::none(alloc);
@@ -52,8 +55,7 @@ impl Users {
 
     // This thread uses a lock, too.
     fn add(&mut self, lock: LockId, thread: ThreadId) -> Result<(), Memory>
-        ensures added { OnOk result (MayUse self.new lock thread) }
-        ensures stay { OnOk result ((l t : ℕ) → MayUse self.old l t → MayUse self.new l t) }
+        ensures { OnOk result (AddsUser self.old lock thread self.new) }
     {
         let Some(known) = self.by_lock.get(&lock).copied() else {
             self.by_lock.insert(lock, Some(thread))?;
@@ -71,9 +73,9 @@ impl Users {
 
     // The thread of an edge uses its lock on this side, if the edge is kept.
     fn add_kept(&mut self, is_kept: bool, side: Side, edge: &Edge) -> Result<(), Memory>
-        ensures added { OnOk result
-            (is_kept ≡ true → MayUse self.new (lock_towards side edge.now) edge.now.thread) }
-        ensures stay { OnOk result ((l t : ℕ) → MayUse self.old l t → MayUse self.new l t) }
+        ensures added { OnOk result (is_kept ≡ true
+            → AddsUser self.old (lock_towards side edge.now) edge.now.thread self.new) }
+        ensures left { OnOk result (is_kept ≡ false → self.new ≡ self.old) }
     {
         if !is_kept {
             return Ok(());
@@ -81,9 +83,9 @@ impl Users {
         self.add(side.lock_of(edge), edge.thread)
     }
 
-    /// Whether no thread but this one uses a lock.
+    /// Whether no thread but this one uses a lock, as far as is known.
     pub fn has_only(&self, lock: LockId, thread: ThreadId) -> bool
-        ensures { IsTrue result → (t : ℕ) → MayUse self.now lock t → t ≡ thread }
+        ensures { IsTrue result ↔ ((t : ℕ) → MayUse self.now lock t → t ≡ thread) }
     {
         let Some(known) = self.by_lock.get(&lock).copied() else {
             return true;

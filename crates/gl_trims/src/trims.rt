@@ -1,5 +1,5 @@
 //! Trimming: edges that nothing may follow in a cycle, or that may follow nothing, go one by one.
-ghost use Rattle.std.specs.Prelude.{◌≡◌, ◌<◌, ◌||◌, ℕ, Bool, true, false, List, [], Some, length, set, get_or, slice_get, nat_lt, ◌==◌, IfOk, IfSome, OnOk, MatchOption, vec_len};
+ghost use Rattle.std.specs.Prelude.{◌≡◌, ◌<◌, ◌||◌, ℕ, Bool, true, false, List, [], None, Some, length, set, get_or, slice_get, nat_lt, ◌==◌, IfOk, IfSome, OnOk, MatchOption, vec_len};
 ghost use Rattle.std.specs.Bool.{Decides};
 ghost use Rattle.std.specs.List.{list_any};
 ghost use Rattle.gl_segments.specs.Clocks.{is_before};
@@ -10,8 +10,8 @@ ghost use Rattle.gl_edges.specs.declared.edge.Edge.{Edge};
 ghost use Rattle.gl_trims.specs.bodies.Trimming.{IsFlagged, IsStart, IsHint, HasHint, AreHints, AreBothHints, HasBesideAt, TellsStuck, KeepHints, AreSettled, AreFlagsOf, AreAwake, AreTaken, IsWoken, hints_of, watched_at};
 ghost use Rattle.gl_trims.specs.bodies.Waiting.{waits, AreEarlier};
 ghost use Rattle.gl_index.specs.Indexes.{AreChained};
-ghost use Rattle.gl_index.specs.Sides.{opposite};
-ghost use Rattle.gl_index.specs.Users.{AreUsers};
+ghost use Rattle.gl_index.specs.Sides.{lock_towards, opposite};
+ghost use Rattle.gl_index.specs.Users.{AreUsers, MayUse};
 
 use crate::waiting::Waiting;
 use crate::watchers::Watchers;
@@ -195,8 +195,11 @@ impl Trimming<'_> {
             (length self.now.table.now) hints.now.users }
         requires chain { AreChained (opposite side)
             (edges_of_table self.now.table.now) 0 hints.now.chain }
-        ensures { (gone : List Bool) → IsStart (is_before self.now.order.now) self.now.mode
+        ensures start { (gone : List Bool) → IsStart (is_before self.now.order.now) self.now.mode
             (edges_of_table self.now.table.now) gone side i result }
+        ensures own { (e : Edge) → slice_get (edges_of_table self.now.table.now) i ≡ Some e
+            → ((t : ℕ) → MayUse hints.now.users (lock_towards side e) t → t ≡ e.thread)
+            → result ≡ None }
     {
         let edge = &self.table[i].0;
         let lock = side.lock_of(edge);

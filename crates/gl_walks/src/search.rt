@@ -1,11 +1,11 @@
 //! The search: paths of edges that may stand in a walk, grown in order of their positions.
-ghost use Rattle.std.specs.Prelude.{◌≡◌, ◌+◌, ◌<◌, ◌≤◌, [], ◌∷◌, ◌++◌, false, ℕ, Some, List, length, slice_get, IfErr, IfOk, MatchOption, All};
+ghost use Rattle.std.specs.Prelude.{◌≡◌, ◌+◌, ◌-◌, ◌<◌, ◌≤◌, [], ◌∷◌, ◌++◌, false, true, ℕ, Err, Some, List, length, slice_get, IfErr, IfOk, MatchOption, All};
 ghost use Rattle.std.specs.List.{list_all};
 ghost use Rattle.gl_segments.specs.Clocks.{is_before};
 ghost use Rattle.gl_edges.specs.declared.edge.Edge.{Edge};
 ghost use Rattle.gl_filters.specs.Picked.{edges_of_table, picked};
 ghost use Rattle.gl_filters.specs.Test.{leads_back};
-ghost use Rattle.gl_filters.specs.declared.steps.Stop.TheVariants.{Memory};
+ghost use Rattle.gl_filters.specs.declared.steps.Stop.TheVariants.{Memory, Spent};
 ghost use Rattle.gl_filters.specs.declared.lengths.TheConstants.{LONGEST};
 ghost use Rattle.gl_walks.specs.bodies.Listing.{Key, IsNext};
 ghost use Rattle.gl_walks.specs.bodies.Fronts.{goes_by, stays_above, may_follow, may_end, sought_by, IsFront, NoneFrom, IsLeastFrom, key_after, key_behind, IsIndexed};
@@ -199,6 +199,8 @@ impl Search<'_> {
             (λ walk. IsLeastFrom (sought_by self.now.area self.now.purpose pattern.now) []
             walk.items)) }
         ensures stopped { IfErr result (λ stop. self.now.is_bound ≡ false → stop ≡ Memory) }
+        ensures spent { IfErr result (λ stop. stop ≡ Spent → steps.new ≡ 0) }
+        ensures fewer { steps.new ≤ steps.old }
     {
         self.grow(alloc, pattern, &[], steps)
     }
@@ -220,6 +222,8 @@ impl Search<'_> {
             (λ walk. IsLeastFrom (sought_by self.now.area self.now.purpose pattern.now) path.now
             walk.items)) }
         ensures stopped { IfErr result (λ stop. self.now.is_bound ≡ false → stop ≡ Memory) }
+        ensures spent { IfErr result (λ stop. stop ≡ Spent → steps.new ≡ 0) }
+        ensures fewer { steps.new ≤ steps.old }
     {
         if path.len() == pattern.len() {
             if !self.may_end(path) {
@@ -265,6 +269,9 @@ impl Search<'_> {
             (λ walk. IsLeastFrom (sought_by self.now.area self.now.purpose pattern.now)
             (path.now ++ next ∷ []) walk.items)) }
         ensures stopped { IfErr result (λ stop. self.now.is_bound ≡ false → stop ≡ Memory) }
+        ensures spent { IfErr result (λ stop. stop ≡ Spent → steps.new ≡ 0) }
+        ensures fewer { steps.new ≤ steps.old - 1 }
+        ensures last { self.now.is_bound ≡ true → steps.old ≡ 0 → result ≡ Err Spent }
     {
         spend_step(self.is_bound, steps)?;
         if !self.may_follow(path, next) {

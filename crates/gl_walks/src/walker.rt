@@ -2,7 +2,7 @@
 ghost use Rattle.std.specs.Prelude.{◌≡◌, ◌<◌, ◌≤◌, false, length, IfErr, IfOk, MatchOption};
 ghost use Rattle.gl_segments.specs.Clocks.{is_before};
 ghost use Rattle.gl_filters.specs.Picked.{edges_of_table};
-ghost use Rattle.gl_filters.specs.declared.steps.Stop.TheVariants.{Memory};
+ghost use Rattle.gl_filters.specs.declared.steps.Stop.TheVariants.{Memory, Spent};
 ghost use Rattle.gl_filters.specs.declared.lengths.TheConstants.{LONGEST};
 ghost use Rattle.gl_walks.specs.Walks.{NoWalk, IsFirstWalk};
 
@@ -79,6 +79,8 @@ impl<'a> Walker<'a> {
             self.now.ground.mode (edges_of_table self.now.ground.table.now)
             self.now.ground.classes.now self.now.ground.flags.now pattern.now walk.items)) }
         ensures stopped { IfErr result (λ stop. self.now.is_bound ≡ false → stop ≡ Memory) }
+        ensures spent { IfErr result (λ stop. stop ≡ Spent → steps.new ≡ 0) }
+        ensures fewer { steps.new ≤ steps.old }
     {
         self.search.first(alloc, pattern, steps)
     }

@@ -1,10 +1,8 @@
-use Rattle.std.proofs.Common.{sym, ◌∙◌}
-use Rattle.gl_index.proofs.Using.{first_stays, several_stay}
+use Rattle.std.proofs.Common.{Some, sym, ap, ◌∙◌}
+use Rattle.gl_index.specs.Users.{and_user}
+use Rattle.gl_index.proofs.Using.{adds_set}
 use Rattle.gl_index.proofs.users.Users.add.Goals as goal
 
-pub returns-in_default-clause-stay : goal.returns-in_default-clause-stay
-returns-in_default-clause-stay c =
-    first_stays c.args.self.now (record { by_lock = c.insert.new.self }) c.args.lock c.args.thread (sym (c.copied.ensures ∙ c.get.ensures.value) ∙ c.in_default.is) c.in_ok-insert.ensures.updates.0
-
-pub returns-clause-stay : goal.returns-clause-stay
-returns-clause-stay c = several_stay c.args.self.now (record { by_lock = c.insert-2.new.self }) c.args.lock c.in_ok-insert-2.ensures.updates.0
+pub returns-in_default : goal.returns-in_default
+returns-in_default c =
+    adds_set c.args.self.now c.args.lock c.args.thread (record { by_lock = c.insert.new.self }) (Some c.args.thread) (ap (λ k. and_user k c.args.thread) (sym (c.copied.ensures ∙ c.get.ensures.value) ∙ c.in_default.is)) c.in_ok-insert.ensures.updates.0

@@ -16,4 +16,4 @@ next_beside-requires-2-clause-start c =
 
 -- it begins with the first that has the lock
 pub next_beside-requires-clause-start : goal.next_beside-requires-clause-start
-next_beside-requires-clause-start c = c.first_candidate-first.ensures c.args.gone.now
+next_beside-requires-clause-start c = c.first_candidate-first.ensures.start c.args.gone.now

@@ -12,5 +12,5 @@ returns c = λ gone.
     let s = c.args.self.now in
     let edges = edges_of_table s.table.now in
     hints_none (is_before s.order.now) s.mode edges gone c.args.side _ (length s.table.now) (sym (length-map s.table.now (λ pair. pair.0))) (c.in_ok-vec.ensures.items_if_clones_equal (none_alone _ (λ p is. is))) c.in_ok-none.ensures
-    (subst (λ side. AreUsers side edges [] (length s.table.now) c.in_ok-of_kept.field-0) c.opposite-towards.ensures c.in_ok-of_kept.ensures)
+    (subst (λ side. AreUsers side edges [] (length s.table.now) c.in_ok-of_kept.field-0) c.opposite-towards.ensures c.in_ok-of_kept.ensures.users)
     (subst (λ side. AreChained side edges 0 c.in_ok-of.field-0) c.opposite-towards.ensures c.in_ok-of.ensures)

@@ -33,12 +33,12 @@ grow-returns-then-is_closed-clause-found t c =
 
 -- before the first edge
 pub grow-loop-next-init : goal.grow-loop-next-init
-grow-loop-next-init t c = passed_first (sought c.args.self.now c.args.pattern.now) (even c.args.self.now c.args.pattern.now) c.args.path.now _ c.requires.front c.begin-next.ensures
+grow-loop-next-init t c = (passed_first (sought c.args.self.now c.args.pattern.now) (even c.args.self.now c.args.pattern.now) c.args.path.now _ c.requires.front c.begin-next.ensures, omega arith)
 
 -- the call for one edge
 pub grow-grow_by-requires : goal.grow-grow_by-requires
 grow-grow_by-requires t c =
-    let has = c.loop-next.invariant.has c.in-Some.i c.in-Some.is in (
+    let has = c.loop-next.invariant.0.has c.in-Some.i c.in-Some.is in (
       search rules,
       (c.requires.fits, (omega (arith, c.requires.front.short), (c.requires.front, (omega (arith, has.0, length-map c.args.self.now.area.table.now (λ pair. pair.0)), has.1)))),
     )
@@ -49,13 +49,13 @@ grow-returns-in-Some-2-clause-found t c =
     let s = sought c.args.self.now c.args.pattern.now in
     let path = c.args.path.now in
     let i = c.in-Some.i in
-    least_here s (even c.args.self.now c.args.pattern.now) path i _ (omega (arith, c.requires.front.short)) (subst (HasPassed s path) c.in-Some.is c.loop-next.invariant)
+    least_here s (even c.args.self.now c.args.pattern.now) path i _ (omega (arith, c.requires.front.short)) (subst (HasPassed s path) c.in-Some.is c.loop-next.invariant.0)
     (subst (λ o. MatchOption o (NoneFrom s (path ++ i ∷ [])) (λ walk. IsLeastFrom s (path ++ i ∷ []) walk.items)) c.in-Some-2.is c.in_ok-walk-2.ensures.found)
 
 -- the edge is in the index
 pub grow-after-next-requires : goal.grow-after-next-requires
 grow-after-next-requires t c =
-    let has = c.loop-next.invariant.has c.in-Some.i c.in-Some.is in
+    let has = c.loop-next.invariant.0.has c.in-Some.i c.in-Some.is in
     omega (arith, has.0, length-map c.args.self.now.area.table.now (λ pair. pair.0))
 
 -- fewer positions are left behind a later one
@@ -68,7 +68,7 @@ closer n m i now next same is before within =
 pub grow-loop-next-smaller : goal.grow-loop-next-smaller
 grow-loop-next-smaller t c =
     let table = c.args.self.now.area.table.now in
-    let has = c.loop-next.invariant.has c.in-Some.i c.in-Some.is in
+    let has = c.loop-next.invariant.0.has c.in-Some.i c.in-Some.is in
     let later = c.after-next.ensures c.args.pattern.now (key_after (sought c.args.self.now c.args.pattern.now) c.args.path.now) has.1 in
     let from = later.from in
     closer (length table) (length (edges_of_table table)) c.in-Some.i c.loop-next.next c.after-next.result (length-map table (λ pair. pair.0)) c.in-Some.is (omega arith) later.within
@@ -79,16 +79,20 @@ grow-loop-next-preserved t c =
     let s = sought c.args.self.now c.args.pattern.now in
     let path = c.args.path.now in
     let i = c.in-Some.i in
-    let has = c.loop-next.invariant.has i c.in-Some.is in
-    passed_more s (even c.args.self.now c.args.pattern.now) path i _ c.requires.front (subst (HasPassed s path) c.in-Some.is c.loop-next.invariant)
-    (subst (λ o. MatchOption o (NoneFrom s (path ++ i ∷ [])) (λ walk. IsLeastFrom s (path ++ i ∷ []) walk.items)) c.in_default-2.is c.in_ok-walk-2.ensures.found)
-    (c.after-next.ensures c.args.pattern.now (key_after s path) has.1)
+    let has = c.loop-next.invariant.0.has i c.in-Some.is in
+    let fewer = c.grow_by.ensures.fewer in
+    let before = c.loop-next.invariant.1 in (
+      passed_more s (even c.args.self.now c.args.pattern.now) path i _ c.requires.front (subst (HasPassed s path) c.in-Some.is c.loop-next.invariant.0)
+          (subst (λ o. MatchOption o (NoneFrom s (path ++ i ∷ [])) (λ walk. IsLeastFrom s (path ++ i ∷ []) walk.items)) c.in_default-2.is c.in_ok-walk-2.ensures.found)
+          (c.after-next.ensures c.args.pattern.now (key_after s path) has.1),
+      omega (arith, before, fewer),
+    )
 
 -- none goes on with any
 pub grow-returns-clause-found : goal.grow-returns-clause-found
 grow-returns-clause-found t c =
     let s = sought c.args.self.now c.args.pattern.now in
-    passed_all s (even c.args.self.now c.args.pattern.now) c.args.path.now (subst (HasPassed s c.args.path.now) c.in_default.is c.loop-next.invariant) (omega (arith, c.requires.front.short))
+    passed_all s (even c.args.self.now c.args.pattern.now) c.args.path.now (subst (HasPassed s c.args.path.now) c.in_default.is c.loop-next.invariant.0) (omega (arith, c.requires.front.short))
 
 -- the edge may not follow
 pub grow_by-returns-then-not-may_follow-clause-found : goal.grow_by-returns-then-not-may_follow-clause-found
