@@ -5,7 +5,7 @@ ghost use Rattle.gl_event.specs.declared.events.Event.{Event};
 
 use crate::say::{Stop, refused};
 use gl_edges::{EdgeList, edges_of};
-use gl_event::{Event, Limits};
+use gl_event::Event;
 use gl_segments::{Order, OrderFault};
 
 /// What is known of lists.
@@ -50,7 +50,7 @@ fn order(rt: &HostRuntime, lists: &[Vec<Event>]) -> Result<Order, Stop>
 
 /// What is known of the lists, if they are lawful.
 pub(crate) fn known_of(rt: &HostRuntime, lists: &[Vec<Event>]) -> Result<Known, Stop> {
-    if !gl_worked::are_lawful(lists) {
+    if !gl_worked::lawful::are_lawful(lists) {
         return Err(Stop::Astray);
     }
     let edges = edges(rt, lists)?;
