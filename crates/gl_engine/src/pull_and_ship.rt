@@ -16,7 +16,7 @@ use crate::pulled::{PullFault, Pulled};
 use gl_edges::{Edge, Sample};
 use gl_event::ThreadId;
 use gl_intake::Intake;
-use gl_shards::{Outlet, pause_and_yield, shard_of};
+use gl_shards::{Outlet, pause, shard_of};
 use std::alloc::Global;
 use std::sync::Wait;
 
@@ -205,7 +205,7 @@ fn pull_until_ended<R: Wait>(
         if round(rt, alloc, threads, inputs, intake, &mut made, outlets)? {
             looks = 0;
         } else {
-            pause_and_yield(rt, looks);
+            pause(rt, looks);
             looks = looks.saturating_add(1);
         }
     }

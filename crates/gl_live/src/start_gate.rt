@@ -1,9 +1,9 @@
 //! The gate at which recorder threads wait until all threads of a run are started.
 ghost use Rattle.std.specs.Prelude.{◌≡◌, length};
 
-use gl_shards::pause;
 use std::sync::Wait;
 use std::sync::atomic::{AtomicU64, Ordering};
+use std::thread;
 
 const WAITING: u64 = 0;
 
@@ -47,13 +47,11 @@ impl StartGate {
 
     /// Waits until the run begins or is called off. Whether it begins.
     pub fn wait<R: Wait>(&self, rt: &R) -> bool {
-        let mut looks: u32 = 0;
         for _ in rt.forever() {
             match self.state.load(Ordering::SeqCst) {
-                WAITING => pause(rt, looks),
+                WAITING => thread::yield_now(),
                 state => return state == STARTED,
             }
-            looks = looks.saturating_add(1);
         }
         unreachable!()
     }

@@ -6,7 +6,7 @@ ghost use Rattle.gl_event.specs.declared.limits.TheConstants.{MAX_RING};
 ghost use Rattle.gl_shards.specs.Rule.{and_sent, HasEnded};
 
 use crate::rule::{InOrder, Message, Roles, Sends, Traffic};
-use crate::waiting::{LOOKS, pause_and_yield};
+use crate::waiting::{LOOKS, pause};
 use crossbeam_channel::{Pass, RuledReceiver, RuledSender, TrySendError, bounded_with};
 use gl_edges::{Edge, Sample};
 use gl_event::Memory;
@@ -135,7 +135,7 @@ fn send_message<R: Wait>(
             Err(TrySendError::Full(back)) => message = back,
             Err(error) => return Err(error.into_inner()),
         }
-        pause_and_yield(rt, looks);
+        pause(rt, looks);
     }
     match sender.send_as::<Sends, R>(rt, pass, message) {
         Ok(()) => Ok(()),
