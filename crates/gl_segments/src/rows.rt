@@ -96,7 +96,7 @@ impl Rows {
 
     /// Takes the clock of a segment into the latest counts of a thread, and the segment itself, where
     /// all clocks of its thread are made.
-    pub fn join(&self, growing: &mut Growing, source: Segment) -> Result<(), AllocError>
+    pub fn merge_ended(&self, growing: &mut Growing, source: Segment) -> Result<(), AllocError>
         requires width { length growing.old.latest < 2 ^ 32 }
         requires within { source.thread < length growing.old.latest }
         requires small { source.index + 1 < 2 ^ 32 }
@@ -109,15 +109,16 @@ impl Rows {
     {
         match self.rows.get(source.thread.number() as usize) {
             Some(Row::Ended(history)) => {
-                joined(growing, history, source)?;
+                merge_segment(growing, history, source)?;
                 Ok(())
             }
             _ => Ok(()),
         }
     }
 
-    /// Tells a thread that has a fork in this segment what is before it, by the segment's clock.
-    pub fn tell(
+    /// Raises the counts of what is before the first segment of a thread that a fork in this segment
+    /// starts, by the segment and its clock. A thread of which a clock is made is left as it is.
+    pub fn raise_front(
         &mut self,
         alloc: Global,
         thread: ThreadId,
@@ -164,7 +165,11 @@ impl Rows {
 }
 
 // Takes a segment, and what is before it, into the latest counts.
-fn joined(growing: &mut Growing, history: &History, source: Segment) -> Result<(), AllocError>
+fn merge_segment(
+    growing: &mut Growing,
+    history: &History,
+    source: Segment,
+) -> Result<(), AllocError>
     requires width { length growing.old.latest < 2 ^ 32 }
     requires within { source.thread < length growing.old.latest }
     requires small { source.index + 1 < 2 ^ 32 }

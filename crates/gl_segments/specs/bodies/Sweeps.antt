@@ -1,5 +1,6 @@
 -- What a sweep over the steps knows of each thread.
-use Rattle.std.specs.Prelude.{◌≡◌, ℕ, ◌-◌, ◌<◌, ◌≤◌, Bool, true, false, List, Some, length, Contains, slice_get}
+use Rattle.std.specs.Prelude.{◌≡◌, ℕ, ◌-◌, ◌<◌, ◌≤◌, Bool, true, false, not, ◌&&◌, ◌==◌, nat_lt, List, Some, length, Contains, slice_get, slice_index}
+use Rattle.std.specs.Option.{option_map_or}
 use Rattle.std.specs.Global.{Vec}
 use Rattle.gl_event.specs.declared.events.Segment.{Segment}
 use Rattle.gl_segments.specs.declared.history.Growing.{Growing}
@@ -47,6 +48,12 @@ abbrev pub has_ended : Row → Bool
 has_ended (Waiting front) = false
 has_ended (Begun growing) = false
 has_ended (Ended history) = true
+
+-- this segment's thread is another one than the growing one and hasn't ended, and the latest counts don't count the segment
+abbrev pub is_awaited : List Row → Growing → Segment → Bool
+is_awaited rows g s =
+    not (s.thread == g.thread) && not (nat_lt s.index (slice_index g.latest s.thread))
+    && not (option_map_or has_ended (slice_get rows s.thread) false)
 
 -- what is known of each thread
 abbrev pub HaveRows : Sources → List Row → Type 0

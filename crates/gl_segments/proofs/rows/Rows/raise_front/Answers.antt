@@ -5,7 +5,7 @@ use Rattle.gl_segments.specs.declared.rows.Row.TheVariants.{Waiting}
 use Rattle.gl_segments.specs.bodies.Fronts.{first_of, IsFront}
 use Rattle.gl_segments.specs.bodies.Tables.{Has}
 use Rattle.gl_segments.proofs.Sweeping.{front_merged}
-use Rattle.gl_segments.proofs.rows.Rows.tell.Goals as goal
+use Rattle.gl_segments.proofs.rows.Rows.raise_front.Goals as goal
 
 pub returns-in_ok-front-clause-rows : goal.returns-in_ok-front-clause-rows
 returns-in_ok-front-clause-rows c = λ steps sound width is apart step have.

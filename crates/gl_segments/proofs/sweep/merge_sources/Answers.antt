@@ -1,23 +1,23 @@
 use Rattle.std.proofs.Common.{◌∙◌, arith}
 use Rattle.gl_segments.proofs.Chains.{thread_inside}
 use Rattle.gl_segments.proofs.Searching.{item_leads, item_small}
-use Rattle.gl_segments.proofs.sweep.gather.Goals as goal
-use Rattle.gl_segments.proofs.sweep.gather.Goals.{then-source-ahead+in_ok-join, else-source-ahead}
+use Rattle.gl_segments.proofs.sweep.merge_sources.Goals as goal
+use Rattle.gl_segments.proofs.sweep.merge_sources.Goals.{then-source-ahead+in_ok-merge_ended, else-source-ahead}
 
-pub join-requires-clause-width : goal.join-requires-clause-width
-join-requires-clause-width c =
+pub merge_ended-requires-clause-width : goal.merge_ended-requires-clause-width
+merge_ended-requires-clause-width c =
     let width = c.loop-source.invariant.part.width in
     let few = c.requires.sound.few in
     omega arith
 
-pub join-requires-clause-within : goal.join-requires-clause-within
-join-requires-clause-within c =
+pub merge_ended-requires-clause-within : goal.merge_ended-requires-clause-within
+merge_ended-requires-clause-within c =
     let inv = c.loop-source.invariant in
     let leads = item_leads c.args.steps.now c.requires.sound c.args.at _ c.args.at c.loop-source.source-index c.source-item.result inv.items c.loop-source-test.true c.source-item.is in
     omega (arith, thread_inside c.args.steps.now c.source-item.result (c.requires.sound.inside _ _ leads), inv.part.width)
 
-pub join-requires-clause-small : goal.join-requires-clause-small
-join-requires-clause-small c =
+pub merge_ended-requires-clause-small : goal.merge_ended-requires-clause-small
+merge_ended-requires-clause-small c =
     let inv = c.loop-source.invariant in
     let leads = item_leads c.args.steps.now c.requires.sound c.args.at _ c.args.at c.loop-source.source-index c.source-item.result inv.items c.loop-source-test.true c.source-item.is in
     item_small c.args.steps.now c.requires.sound c.args.at c.args.at c.source-item.result leads
@@ -27,13 +27,13 @@ loop-source-preserved c =
     let inv = c.loop-source.invariant in
     let leads = item_leads c.args.steps.now c.requires.sound c.args.at _ c.args.at c.loop-source.source-index c.source-item.result inv.items c.loop-source-test.true c.source-item.is in
     elim c.if-source-ahead.branch [
-      | then-source-ahead+in_ok-join w ↦
+      | then-source-ahead+in_ok-merge_ended w ↦
           rw w.growing-is (record {
-            same_thread = w.join.ensures.still.thread ∙ inv.same_thread;
-            same_segments = w.join.ensures.still.segments ∙ inv.same_segments;
+            same_thread = w.merge_ended.ensures.still.thread ∙ inv.same_thread;
+            same_segments = w.merge_ended.ensures.still.segments ∙ inv.same_segments;
             items = inv.items;
-            part = w.in_ok-join.ensures.part c.args.steps.now c.args.at c.requires.sound c.requires.rows leads inv.part;
-            noted = λ clocks some noted. w.in_ok-join.ensures.noted clocks some (inv.noted clocks some noted);
+            part = w.in_ok-merge_ended.ensures.part c.args.steps.now c.args.at c.requires.sound c.requires.rows leads inv.part;
+            noted = λ clocks some noted. w.in_ok-merge_ended.ensures.noted clocks some (inv.noted clocks some noted);
           })
       | else-source-ahead w ↦ rw w.growing-is inv
     ]

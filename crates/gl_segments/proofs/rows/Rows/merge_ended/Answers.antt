@@ -5,10 +5,10 @@ use Rattle.gl_segments.specs.declared.rows.Row.TheVariants.{Ended}
 use Rattle.gl_segments.specs.bodies.Rows.{AreClocksOf}
 use Rattle.gl_segments.specs.bodies.Tables.{Has}
 use Rattle.gl_segments.proofs.Sweeping.{part_merged}
-use Rattle.gl_segments.proofs.rows.Rows.join.Goals as goal
+use Rattle.gl_segments.proofs.rows.Rows.merge_ended.Goals as goal
 
-pub returns-in_ok-joined-in-Some-Ended-clause-part : goal.returns-in_ok-joined-in-Some-Ended-clause-part
-returns-in_ok-joined-in-Some-Ended-clause-part c = λ steps target sound have step part.
+pub returns-in_ok-merge_segment-in-Some-Ended-clause-part : goal.returns-in_ok-merge_segment-in-Some-Ended-clause-part
+returns-in_ok-merge_segment-in-Some-Ended-clause-part c = λ steps target sound have step part.
     let source = c.args.source in
     let history = c.in-Some-Ended.history in
     let looked = c.in-Some-Ended.ensures.lookup in
@@ -20,4 +20,4 @@ returns-in_ok-joined-in-Some-Ended-clause-part c = λ steps target sound have st
     let has : Has steps source = sound.inside source target step in
     let clock : List ℕ = slice_index_or history source.index [] in
     let is = all.each source.index has in
-    (part_merged steps sound clock source has is (λ counted. all.apart source.index has ((is source).0 counted)) c.args.growing.now.latest c.joined.new.growing.latest _ target step part refl c.in_ok-joined-in-Some-Ended.ensures.latest).0
+    (part_merged steps sound clock source has is (λ counted. all.apart source.index has ((is source).0 counted)) c.args.growing.now.latest c.merge_segment.new.growing.latest _ target step part refl c.in_ok-merge_segment-in-Some-Ended.ensures.latest).0

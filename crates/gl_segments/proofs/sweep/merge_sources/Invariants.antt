@@ -2,7 +2,7 @@ use Rattle.std.proofs.Common.{◌≡◌}
 use Rattle.gl_segments.specs.bodies.Histories.{KeepsClocks}
 use Rattle.gl_segments.specs.bodies.Sweeps.{IsPart}
 use Rattle.gl_segments.specs.bodies.Tables.{sources}
-use Rattle.gl_segments.proofs.sweep.gather.Given as goal
+use Rattle.gl_segments.proofs.sweep.merge_sources.Given as goal
 
 -- the counts are a part of the segment's clock
 abbrev pub invariant-loop-source : goal.invariant-loop-source
