@@ -1,6 +1,5 @@
 //! What a sweep over the steps knows of each thread.
-ghost use Rattle.std.specs.Prelude.{◌≡◌, ◌+◌, ◌<◌, ◌≤◌, ◌^◌, false, length, slice_get, slice_set, Some, IfOk, OnOk};
-ghost use Rattle.std.specs.Option.{option_map_or};
+ghost use Rattle.std.specs.Prelude.{◌≡◌, ◌+◌, ◌<◌, ◌≤◌, ◌^◌, true, length, slice_get, slice_set, Some, IfOk, OnOk};
 ghost use Rattle.gl_event.specs.declared.events.Segment.{Segment};
 ghost use Rattle.gl_segments.specs.Clocks.{clock_at};
 ghost use Rattle.gl_segments.specs.bodies.Fronts.{first_of};
@@ -8,7 +7,7 @@ ghost use Rattle.gl_segments.specs.bodies.Histories.{AddsNoClock, KeepsClocks};
 ghost use Rattle.gl_segments.specs.bodies.Merging.{raised_to, IsMerged};
 ghost use Rattle.gl_segments.specs.bodies.Rows.{AreClocksTo};
 ghost use Rattle.gl_segments.specs.bodies.Search.{Counts, IsClockOf};
-ghost use Rattle.gl_segments.specs.bodies.Sweeps.{has_ended, FrontsFit, HaveRows, IsPart, IsRow};
+ghost use Rattle.gl_segments.specs.bodies.Sweeps.{is_ended, FrontsFit, HaveRows, IsPart, IsRow, RaisesFront};
 ghost use Rattle.gl_segments.specs.bodies.Tables.{Sources, IsSound, LeadsTo};
 
 use crate::clock::Clock;
@@ -89,7 +88,7 @@ impl Rows {
 
     /// Whether all clocks of the thread are made.
     pub fn is_ended(&self, thread: ThreadId) -> bool
-        ensures { result ≡ option_map_or has_ended (slice_get self.now thread) false }
+        ensures { result ≡ is_ended self.now thread }
     {
         matches!(self.rows.get(thread.number() as usize), Some(Row::Ended(_)))
     }
@@ -101,6 +100,10 @@ impl Rows {
         requires within { source.thread < length growing.old.latest }
         requires small { source.index + 1 < 2 ^ 32 }
         ensures still { AddsNoClock growing.old growing.new }
+        ensures kept { OnOk result
+            ((s : Segment) → Counts growing.old.latest s → Counts growing.new.latest s) }
+        ensures counted { OnOk result
+            (is_ended self.now source.thread ≡ true → Counts growing.new.latest source) }
         ensures part { OnOk result
             ((steps : Sources) (target : Segment) → IsSound steps → HaveRows steps self.now
             → LeadsTo steps source target → IsPart steps growing.old.latest target
@@ -130,6 +133,7 @@ impl Rows {
         requires within { from.thread < length clock.now }
         requires small { from.index + 1 < 2 ^ 32 }
         ensures size { length self.new ≡ length self.old }
+        ensures raised { OnOk result (RaisesFront self.old self.new thread from) }
         ensures rows { OnOk result
             ((steps : Sources) → IsSound steps → length clock.now ≡ length steps
             → IsClockOf steps clock.now from → ¬ Counts clock.now from

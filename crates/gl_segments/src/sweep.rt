@@ -12,7 +12,7 @@ ghost use Rattle.gl_segments.specs.bodies.Fronts.{first_of, AreStarting, IsFront
 ghost use Rattle.gl_segments.specs.bodies.Histories.{AddsNoClock, KeepsClocks};
 ghost use Rattle.gl_segments.specs.bodies.Rows.{AreClocksTo};
 ghost use Rattle.gl_segments.specs.bodies.Search.{Counts, IsClockOf, CountsSources};
-ghost use Rattle.gl_segments.specs.bodies.Sweeps.{is_awaited, AreSwept, CanSweep, CountsAll, HaveRows, IsGrowing, IsPart};
+ghost use Rattle.gl_segments.specs.bodies.Sweeps.{is_awaited, AreSwept, CanSweep, CountsAll, CountsEnded, HaveRows, IsGrowing, IsPart};
 ghost use Rattle.gl_segments.specs.bodies.Tables.{Sources, segments_of, steps_of_thread, Has, IsSound};
 
 use crate::clock::Clock;
@@ -360,6 +360,7 @@ fn merge_sources(
     requires rows { HaveRows steps.now rows.now }
     ensures still { AddsNoClock growing.old growing.new }
     ensures part { OnOk result (IsPart steps.now growing.new.latest at) }
+    ensures ended { OnOk result (CountsEnded steps.now rows.now growing.new.latest at) }
     ensures noted { OnOk result (KeepsClocks growing.old growing.new) }
 {
     for source in steps.sources(at) {

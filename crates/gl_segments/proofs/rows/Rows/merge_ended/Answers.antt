@@ -4,7 +4,7 @@ use Rattle.std.proofs.lemmas.Option.{slice_get_read}
 use Rattle.gl_segments.specs.declared.rows.Row.TheVariants.{Ended}
 use Rattle.gl_segments.specs.bodies.Rows.{AreClocksOf}
 use Rattle.gl_segments.specs.bodies.Tables.{Has}
-use Rattle.gl_segments.proofs.Sweeping.{part_merged}
+use Rattle.gl_segments.proofs.Sweeping.{merged_counts, part_merged}
 use Rattle.gl_segments.proofs.rows.Rows.merge_ended.Goals as goal
 
 pub returns-in_ok-merge_segment-in-Some-Ended-clause-part : goal.returns-in_ok-merge_segment-in-Some-Ended-clause-part
@@ -21,3 +21,11 @@ returns-in_ok-merge_segment-in-Some-Ended-clause-part c = λ steps target sound 
     let clock : List ℕ = slice_index_or history source.index [] in
     let is = all.each source.index has in
     (part_merged steps sound clock source has is (λ counted. all.apart source.index has ((is source).0 counted)) c.args.growing.now.latest c.merge_segment.new.growing.latest _ target step part refl c.in_ok-merge_segment-in-Some-Ended.ensures.latest).0
+
+pub returns-in_ok-merge_segment-in-Some-Ended-clause-kept : goal.returns-in_ok-merge_segment-in-Some-Ended-clause-kept
+returns-in_ok-merge_segment-in-Some-Ended-clause-kept c =
+    (merged_counts c.args.growing.now.latest _ c.merge_segment.new.growing.latest c.args.source _ c.requires.within c.in_ok-merge_segment-in-Some-Ended.ensures.latest).0
+
+pub returns-in_ok-merge_segment-in-Some-Ended-clause-counted : goal.returns-in_ok-merge_segment-in-Some-Ended-clause-counted
+returns-in_ok-merge_segment-in-Some-Ended-clause-counted c = λ ended.
+    (merged_counts c.args.growing.now.latest _ c.merge_segment.new.growing.latest c.args.source _ c.requires.within c.in_ok-merge_segment-in-Some-Ended.ensures.latest).1
