@@ -1,16 +1,20 @@
 -- How the clock of a segment is put together from those of the segments one step before it.
-use Rattle.std.proofs.Common.{◌≡◌, ℕ, ◌+◌, ◌-◌, ◌<◌, ◌≤◌, ◌⊎◌, List, [], ◌∷◌, ◌++◌, length, max, refl, sym, ap, subst, ◌∙◌, inl, inr, arith}
-use Rattle.std.specs.Prelude.{slice_index, slice_set}
+use Rattle.std.proofs.Common.{◌≡◌, ℕ, ◌+◌, ◌-◌, ◌<◌, ◌≤◌, ◌⊎◌, List, [], ◌∷◌, ◌++◌, length, max, Some, refl, sym, ap, subst, ◌∙◌, inl, inr, arith}
+use Rattle.std.specs.Prelude.{slice_get, slice_index, slice_index_or, slice_set}
 use Rattle.std.proofs.lemmas.Bool.{cases_eq, cases_lt}
 use Rattle.std.proofs.lemmas.List.{length-set, get_or_past, get_or-set_same, get_or-set_other}
+use Rattle.std.proofs.lemmas.Option.{same_Some, slice_get_read, slice_get_within}
 use Rattle.gl_event.specs.declared.events.Segment.{Segment}
 use Rattle.gl_segments.specs.declared.history.Growing.{Growing}
+use Rattle.gl_segments.specs.declared.rows.Row.{Row}
+use Rattle.gl_segments.specs.declared.rows.Row.TheVariants.{Waiting, Begun, Ended}
+use Rattle.std.specs.Global.{Vec}
 use Rattle.gl_segments.specs.bodies.Fronts.{IsFront}
 use Rattle.gl_segments.specs.bodies.Histories.{IsNoted}
 use Rattle.gl_segments.specs.bodies.Merging.{raised_to, IsMerged}
 use Rattle.gl_segments.specs.bodies.Rows.{AreClocksBelow}
 use Rattle.gl_segments.specs.bodies.Search.{Counts, IsClockOf, CountsSources}
-use Rattle.gl_segments.specs.bodies.Sweeps.{IsPart, IsGrowing}
+use Rattle.gl_segments.specs.bodies.Sweeps.{IsPart, IsGrowing, RaisesFront}
 use Rattle.gl_segments.specs.bodies.Tables.{Sources, steps_of_thread, Has, LeadsTo, Precedes, IsSound}
 use Rattle.gl_segments.proofs.Chains.{precedes_cons, precedes_step, precedes_trans, precedes_inside, thread_inside}
 use Rattle.gl_segments.proofs.Clocking.{complete, own_count, clocks_more}
@@ -20,6 +24,70 @@ use Rattle.gl_segments.proofs.Searching.{counts_cases, counts_more, counts_itsel
 same_segment : (a b : Segment) → a.thread ≡ b.thread → a.index ≡ b.index → a ≡ b
 same_segment a b thread index =
     ap (λ t. let x : Segment = record { thread = t; index = a.index } in x) thread ∙ ap (λ i. let x : Segment = record { thread = b.thread; index = i } in x) index
+
+-- counts that were raised to a segment's, and further, count what they counted, and the segment
+pub merged_counts : (now other new : List ℕ) (a : Segment) (n : ℕ) → a.thread < length now → IsMerged (raised_to now a) other new n → ((s : Segment) → Counts now s → Counts new s) × Counts new a
+merged_counts now other new a n within merged =
+    let most = max (slice_index now a.thread) (a.index + 1) in
+    let here : slice_index (raised_to now a) a.thread ≡ most = get_or-set_same now a.thread most 0 within in (
+      λ s counted.
+          let kept = merged.kept s.thread in
+          elim (cases_eq s.thread a.thread) [
+            | inl same ↦
+                let raised = ap (slice_index (raised_to now a)) same in
+                let old = ap (slice_index now) same in
+                omega arith
+            | inr apart ↦
+                let raised : slice_index (raised_to now a) s.thread ≡ slice_index now s.thread = get_or-set_other now a.thread s.thread most 0 apart in
+                omega arith
+          ],
+      let kept = merged.kept a.thread in omega arith,
+    )
+
+waiting_counts : Row → List ℕ
+waiting_counts (Waiting front) = front.items
+waiting_counts (Begun growing) = []
+waiting_counts (Ended history) = []
+
+-- a row whose front was raised to a segment and its clock
+pub front_raised : (old new : List Row) (thread : ℕ) (from : Segment) (clock raised : List ℕ) (front counts : Vec ℕ) (n : ℕ) → slice_get old thread ≡ Some (Waiting front) → new ≡ slice_set old thread (Waiting counts) → from.thread < length clock
+    → n ≡ length front.items → IsMerged (slice_set clock from.thread (from.index + 1)) front.items raised n → ((t : ℕ) → slice_index counts.items t ≡ slice_index raised t) → RaisesFront old new thread from
+unfolding waiting_counts
+front_raised old new thread from clock raised front counts n at set within all merged same =
+    let there = slice_get_within old thread (Waiting front) at in
+    let row : Row = Waiting counts in
+    let read : slice_get (slice_set old thread row) thread ≡ Some row
+    = slice_get_read (slice_set old thread row) (length (slice_set old thread row)) thread row refl (let l = length-set old thread row in omega arith) (sym (get_or-set_same old thread row row there)) in
+    let now : slice_get new thread ≡ Some row = ap (λ rows. slice_get rows thread) set ∙ read in
+    record {
+      kept = λ s was.
+          let is : was.0.items ≡ front.items = ap waiting_counts (same_Some (Waiting was.0) (Waiting front) (sym was.1 ∙ at)) in
+          let before : Counts front.items s = subst (λ xs. Counts xs s) is was.2 in
+          let e = same s.thread in
+          let has : Counts counts.items s =
+          elim (cases_lt s.thread n) [
+            | inl has ↦ let c = merged.covers s.thread has in omega arith
+            | inr past ↦ let none = get_or_past front.items s.thread 0 (omega arith) in omega arith
+          ] in
+          (counts, now, has);
+      counted = λ _ _.
+          let e = same from.thread in
+          let k = merged.kept from.thread in
+          let here = get_or-set_same clock from.thread (from.index + 1) 0 within in
+          (counts, now, omega arith);
+    }
+
+-- the items before i have it, and so has the one at i
+pub so_far_more : (P : Segment → Type 0) (items : List Segment) (i : ℕ) (a : Segment) → i < length items → a ≡ slice_index_or items i a → ((k : ℕ) (s : Segment) → k < i → slice_get items k ≡ Some s → P s) → P a
+    → (k : ℕ) (s : Segment) → k < i + 1 → slice_get items k ≡ Some s → P s
+so_far_more P items i a within is before has k s below at =
+    elim (cases_lt k i) [
+      | inl earlier ↦ before k s earlier at
+      | inr last ↦
+          let place : k ≡ i = omega arith in
+          let here : slice_get items i ≡ Some a = slice_get_read items (length items) i a refl within is in
+          subst P (sym (same_Some s a (sym at ∙ ap (slice_get items) place ∙ here))) has
+    ]
 
 module _ (steps : Sources) (sound : IsSound steps) where
   module _ (clock : List ℕ) (a : Segment) (has : Has steps a) (is : IsClockOf steps clock a) (apart : Counts clock a → ⊥) where

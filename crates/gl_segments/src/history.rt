@@ -146,12 +146,12 @@ impl Growing {
             → IsNoted self.new (clocks ++ clock.now ∷ [])) }
     {
         self.keep(alloc, clock, found)?;
-        self.next();
+        self.push_latest();
         Ok(())
     }
 
     /// Takes the latest counts as the clock of the thread's next segment.
-    pub fn next(&mut self)
+    pub fn push_latest(&mut self)
         requires room { self.old.segments + 1 < 2 ^ 32 }
         ensures thread { self.new.thread ≡ self.old.thread }
         ensures latest { self.new.latest ≡ self.old.latest }

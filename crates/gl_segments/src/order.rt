@@ -139,7 +139,7 @@ fn history(alloc: Global, steps: &Steps, thread: ThreadId) -> Result<History, Or
     for index in 0..steps.segments(thread) {
         let index = index as u32;
         let at = Segment { thread, index };
-        search.run(steps, at)?;
+        search.find_before(steps, at)?;
         if index < search.clock.ahead(thread) {
             let ring = search.ring(alloc)?;
             return Err(OrderFault::Inconsistent { at, ring });

@@ -1,6 +1,5 @@
 //! What a sweep over the steps knows of each thread.
-ghost use Rattle.std.specs.Prelude.{◌≡◌, ◌+◌, ◌<◌, ◌≤◌, ◌^◌, false, length, slice_get, slice_set, Some, IfOk, OnOk};
-ghost use Rattle.std.specs.Option.{option_map_or};
+ghost use Rattle.std.specs.Prelude.{◌≡◌, ◌+◌, ◌<◌, ◌≤◌, ◌^◌, true, length, slice_get, slice_set, Some, IfOk, OnOk};
 ghost use Rattle.gl_event.specs.declared.events.Segment.{Segment};
 ghost use Rattle.gl_segments.specs.Clocks.{clock_at};
 ghost use Rattle.gl_segments.specs.bodies.Fronts.{first_of};
@@ -8,7 +7,7 @@ ghost use Rattle.gl_segments.specs.bodies.Histories.{AddsNoClock, KeepsClocks};
 ghost use Rattle.gl_segments.specs.bodies.Merging.{raised_to, IsMerged};
 ghost use Rattle.gl_segments.specs.bodies.Rows.{AreClocksTo};
 ghost use Rattle.gl_segments.specs.bodies.Search.{Counts, IsClockOf};
-ghost use Rattle.gl_segments.specs.bodies.Sweeps.{has_ended, FrontsFit, HaveRows, IsPart, IsRow};
+ghost use Rattle.gl_segments.specs.bodies.Sweeps.{is_ended, FrontsFit, HaveRows, IsPart, IsRow, RaisesFront};
 ghost use Rattle.gl_segments.specs.bodies.Tables.{Sources, IsSound, LeadsTo};
 
 use crate::clock::Clock;
@@ -89,18 +88,22 @@ impl Rows {
 
     /// Whether all clocks of the thread are made.
     pub fn is_ended(&self, thread: ThreadId) -> bool
-        ensures { result ≡ option_map_or has_ended (slice_get self.now thread) false }
+        ensures { result ≡ is_ended self.now thread }
     {
         matches!(self.rows.get(thread.number() as usize), Some(Row::Ended(_)))
     }
 
     /// Takes the clock of a segment into the latest counts of a thread, and the segment itself, where
     /// all clocks of its thread are made.
-    pub fn join(&self, growing: &mut Growing, source: Segment) -> Result<(), AllocError>
+    pub fn merge_ended(&self, growing: &mut Growing, source: Segment) -> Result<(), AllocError>
         requires width { length growing.old.latest < 2 ^ 32 }
         requires within { source.thread < length growing.old.latest }
         requires small { source.index + 1 < 2 ^ 32 }
         ensures still { AddsNoClock growing.old growing.new }
+        ensures kept { OnOk result
+            ((s : Segment) → Counts growing.old.latest s → Counts growing.new.latest s) }
+        ensures counted { OnOk result
+            (is_ended self.now source.thread ≡ true → Counts growing.new.latest source) }
         ensures part { OnOk result
             ((steps : Sources) (target : Segment) → IsSound steps → HaveRows steps self.now
             → LeadsTo steps source target → IsPart steps growing.old.latest target
@@ -109,15 +112,16 @@ impl Rows {
     {
         match self.rows.get(source.thread.number() as usize) {
             Some(Row::Ended(history)) => {
-                joined(growing, history, source)?;
+                merge_segment(growing, history, source)?;
                 Ok(())
             }
             _ => Ok(()),
         }
     }
 
-    /// Tells a thread that has a fork in this segment what is before it, by the segment's clock.
-    pub fn tell(
+    /// Raises the counts of what is before the first segment of a thread that a fork in this segment
+    /// starts, by the segment and its clock. A thread of which a clock is made is left as it is.
+    pub fn raise_front(
         &mut self,
         alloc: Global,
         thread: ThreadId,
@@ -129,6 +133,7 @@ impl Rows {
         requires within { from.thread < length clock.now }
         requires small { from.index + 1 < 2 ^ 32 }
         ensures size { length self.new ≡ length self.old }
+        ensures raised { OnOk result (RaisesFront self.old self.new thread from) }
         ensures rows { OnOk result
             ((steps : Sources) → IsSound steps → length clock.now ≡ length steps
             → IsClockOf steps clock.now from → ¬ Counts clock.now from
@@ -164,7 +169,11 @@ impl Rows {
 }
 
 // Takes a segment, and what is before it, into the latest counts.
-fn joined(growing: &mut Growing, history: &History, source: Segment) -> Result<(), AllocError>
+fn merge_segment(
+    growing: &mut Growing,
+    history: &History,
+    source: Segment,
+) -> Result<(), AllocError>
     requires width { length growing.old.latest < 2 ^ 32 }
     requires within { source.thread < length growing.old.latest }
     requires small { source.index + 1 < 2 ^ 32 }

@@ -52,7 +52,7 @@ impl Search {
     }
 
     /// Finds all that is before the target: the clock is then the target's.
-    pub fn run(&mut self, steps: &Steps, target: Segment) -> Result<(), AllocError>
+    pub fn find_before(&mut self, steps: &Steps, target: Segment) -> Result<(), AllocError>
         requires sound { IsSound steps.now }
         requires has { Has steps.now target }
         requires may_start { MayStart steps.now self.old.clock target }

@@ -5,13 +5,15 @@
 //! segments wait for each other, and then some segment is before itself. Of this nothing is proved: a
 //! clock is taken only where it counts all that is one step before its segment, and not the segment
 //! itself.
-ghost use Rattle.std.specs.Prelude.{◌≡◌, ◌+◌, ◌<◌, None, length, IfOk, OnOk};
+ghost use Rattle.std.specs.Prelude.{◌≡◌, ◌+◌, ◌-◌, ◌*◌, ◌^◌, ◌<◌, None, length, min, IfOk, OnOk};
+ghost use Rattle.std.specs.List.{find};
+ghost use Rattle.std.specs.Option.{option_map};
 ghost use Rattle.gl_segments.specs.bodies.Fronts.{first_of, AreStarting, IsFront};
 ghost use Rattle.gl_segments.specs.bodies.Histories.{AddsNoClock, KeepsClocks};
 ghost use Rattle.gl_segments.specs.bodies.Rows.{AreClocksTo};
 ghost use Rattle.gl_segments.specs.bodies.Search.{Counts, IsClockOf, CountsSources};
-ghost use Rattle.gl_segments.specs.bodies.Sweeps.{AreSwept, CanSweep, CountsAll, HaveRows, IsGrowing, IsPart};
-ghost use Rattle.gl_segments.specs.bodies.Tables.{Sources, steps_of_thread, Has, IsSound};
+ghost use Rattle.gl_segments.specs.bodies.Sweeps.{is_awaited, AreSwept, CanSweep, CountsAll, CountsEnded, HaveRows, IsGrowing, IsPart};
+ghost use Rattle.gl_segments.specs.bodies.Tables.{Sources, segments_of, steps_of_thread, Has, IsSound};
 
 use crate::clock::Clock;
 use crate::forked::Spawn;
@@ -53,6 +55,7 @@ pub fn clocks(alloc: Global, steps: &Steps) -> Result<Vec<History>, Halt>
 // More often than this no thread goes on, where all can come to their ends.
 fn limit(steps: &Steps, forks: usize) -> usize
     requires { IsSound steps.now }
+    ensures { result ≡ min ((forks + segments_of steps.now) * 2) (2 ^ 64 - 1) }
 {
     let mut limit = forks;
     for thread in 0..steps.threads() {
@@ -201,13 +204,18 @@ impl Sweep {
         if let Some(other) = self.awaited(sources, growing) {
             return Ok(Some(other));
         }
-        next(steps, &self.rows, thread, growing)?;
+        make_next_clock(steps, &self.rows, thread, growing)?;
         self.fork(alloc, steps, thread, index, &growing.latest)?;
         Ok(None)
     }
 
-    // A thread that must end before a segment of this one with these sources can have its clock.
-    fn awaited(&self, sources: &[Segment], growing: &Growing) -> Option<ThreadId> {
+    // The first thread that must end before a segment of this one with these sources can have its
+    // clock.
+    fn awaited(&self, sources: &[Segment], growing: &Growing) -> Option<ThreadId>
+        ensures { result
+            ≡ option_map (λ source. source.thread)
+            (find (is_awaited self.now.rows growing.now) sources.now) }
+    {
         for source in sources {
             let thread = source.thread;
             let is_own = thread.number() == growing.thread.number();
@@ -241,7 +249,7 @@ impl Sweep {
             .partition_point(|s: &Spawn| -> bool { s.from < from });
         match self.forks.get(place) {
             Some(fork) if fork.from == from => {
-                self.rows.tell(alloc, fork.thread, from, clock)?;
+                self.rows.raise_front(alloc, fork.thread, from, clock)?;
                 Ok(())
             }
             _ => Ok(()),
@@ -312,7 +320,12 @@ fn begun(
 }
 
 // Makes the clock of a thread's next segment.
-fn next(steps: &Steps, rows: &Rows, thread: ThreadId, growing: &mut Growing) -> Result<(), Halt>
+fn make_next_clock(
+    steps: &Steps,
+    rows: &Rows,
+    thread: ThreadId,
+    growing: &mut Growing,
+) -> Result<(), Halt>
     requires sound { IsSound steps.now }
     requires has { growing.old.segments < length (steps_of_thread steps.now thread) }
     requires growing { IsGrowing steps.now thread growing.old }
@@ -322,7 +335,7 @@ fn next(steps: &Steps, rows: &Rows, thread: ThreadId, growing: &mut Growing) -> 
 {
     let index = growing.segments;
     growing.note_count(thread, index)?;
-    gather(steps, rows, growing, Segment { thread, index })?;
+    merge_sources(steps, rows, growing, Segment { thread, index })?;
     let sources = steps.sources(Segment { thread, index });
     if uncounted(sources, growing.latest.counts()).is_some() {
         return Err(Halt::Stuck);
@@ -330,23 +343,29 @@ fn next(steps: &Steps, rows: &Rows, thread: ThreadId, growing: &mut Growing) -> 
     if index < growing.latest.ahead(thread) {
         return Err(Halt::Stuck);
     }
-    growing.next();
+    growing.push_latest();
     Ok(())
 }
 
-// Takes into the latest counts what is before the segment.
-fn gather(steps: &Steps, rows: &Rows, growing: &mut Growing, at: Segment) -> Result<(), AllocError>
+// Takes each source of the segment that isn't counted, and its clock, into the latest counts.
+fn merge_sources(
+    steps: &Steps,
+    rows: &Rows,
+    growing: &mut Growing,
+    at: Segment,
+) -> Result<(), AllocError>
     requires sound { IsSound steps.now }
     requires has { Has steps.now at }
     requires part { IsPart steps.now growing.old.latest at }
     requires rows { HaveRows steps.now rows.now }
     ensures still { AddsNoClock growing.old growing.new }
     ensures part { OnOk result (IsPart steps.now growing.new.latest at) }
+    ensures ended { OnOk result (CountsEnded steps.now rows.now growing.new.latest at) }
     ensures noted { OnOk result (KeepsClocks growing.old growing.new) }
 {
     for source in steps.sources(at) {
         if source.index >= growing.latest.ahead(source.thread) {
-            rows.join(growing, *source)?;
+            rows.merge_ended(growing, *source)?;
         }
     }
     Ok(())

@@ -1,5 +1,6 @@
 -- The steps, by the segment to which they lead.
 use Rattle.std.specs.Prelude.{◌≡◌, ◌↔◌, ℕ, ◌+◌, ◌<◌, ◌≤◌, ◌^◌, List, [], ◌∷◌, length, Option, Some, map, filter, Contains, slice_get, slice_index_or, option_and_then}
+use Rattle.std.specs.List.{sum_by}
 use Rattle.std.specs.Option.{option_map_or}
 use Rattle.gl_event.specs.Events.{segment, closes}
 use Rattle.gl_event.specs.declared.events.Event.{Event}
@@ -15,6 +16,10 @@ Sources = List (List (List Segment))
 -- for each segment of a thread, the segments that are one step before it
 abbrev pub steps_of_thread : Sources → ℕ → List (List Segment)
 steps_of_thread steps thread = slice_index_or steps thread []
+
+-- how many segments the table has
+abbrev pub segments_of : Sources → ℕ
+segments_of steps = sum_by length steps
 
 -- the segments that are one step before this one
 abbrev pub sources : Sources → Segment → List Segment

@@ -24,7 +24,7 @@ pub push-requires-clause-among : goal.push-requires-clause-among
 push-requires-clause-among c =
     let steps = c.args.steps.now in
     let at : Segment = record { thread = c.args.thread; index = c.loop-index.index } in
-    let explored = c.in_ok-run.ensures.explored in
+    let explored = c.in_ok-find_before.ensures.explored in
     let has : Has steps at = let e = c.segments-index-end.ensures in let t = c.loop-index-test.true in omega arith in
     rw c.deref.ensures.value (found_among steps c.requires.sound at _ _ explored.links has explored.width)
 
@@ -34,7 +34,7 @@ push-requires-clause-grown c =
     let inv = c.loop-index.invariant in
     λ some.
     let later : 0 < c.loop-index.index = let a = inv.clocks.1.size in let b = inv.clocks.2.size in omega arith in
-    rw (c.deref.ensures.value, inv.latest later) c.in_ok-run.ensures.grown
+    rw (c.deref.ensures.value, inv.latest later) c.in_ok-find_before.ensures.grown
 
 pub loop-index-preserved : goal.loop-index-preserved
 loop-index-preserved c =
@@ -42,8 +42,8 @@ loop-index-preserved c =
     let inv = c.loop-index.invariant in
     let at : Segment = record { thread = c.args.thread; index = c.loop-index.index } in
     let next : Segment = record { thread = c.args.thread; index = c.loop-index.index + 1 } in
-    let clock : List ℕ = c.run.new.self.clock in
-    let explored = c.in_ok-run.ensures.explored in
+    let clock : List ℕ = c.find_before.new.self.clock in
+    let explored = c.in_ok-find_before.ensures.explored in
     let is : IsClockOf steps clock at = explored_clock steps at clock _ explored in
     let apart : Counts clock at → ⊥ = λ counted. let e = c.ahead.ensures in let f = c.if-index-ahead.false in omega arith in
     let more = clocks_more steps c.args.thread inv.clocks.0 c.loop-index.index clock is apart inv.clocks.2 in
@@ -62,9 +62,9 @@ pub returns-then-index-ahead-clause-fault : goal.returns-then-index-ahead-clause
 returns-then-index-ahead-clause-fault c =
     let steps = c.args.steps.now in
     let at : Segment = record { thread = c.args.thread; index = c.loop-index.index } in
-    let explored = c.in_ok-run.ensures.explored in
+    let explored = c.in_ok-find_before.ensures.explored in
     let r = c.in_ok-ring.ensures in
-    let target : r.1.segment ≡ at = r.4 ∙ c.in_ok-run.ensures.target in
+    let target : r.1.segment ≡ at = r.4 ∙ c.in_ok-find_before.ensures.target in
     let chain = chain_of_links steps at _ explored.links c.in_ok-ring.ring.items r.0 r.1 r.2 r.3 r.5 in
     record {
       same_thread = refl;

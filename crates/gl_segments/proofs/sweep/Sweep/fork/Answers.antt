@@ -6,11 +6,11 @@ use Rattle.gl_segments.specs.bodies.Fronts.{first_of}
 use Rattle.gl_segments.specs.bodies.Tables.{LeadsTo}
 use Rattle.gl_segments.proofs.sweep.Sweep.fork.Goals as goal
 
-pub tell-requires-clause-fit : goal.tell-requires-clause-fit
-tell-requires-clause-fit c = λ thread front here. let few = (c.requires.sweeps.swept.rows thread (Waiting front) here).few in let width = c.requires.width in omega arith
+pub raise_front-requires-clause-fit : goal.raise_front-requires-clause-fit
+raise_front-requires-clause-fit c = λ thread front here. let few = (c.requires.sweeps.swept.rows thread (Waiting front) here).few in let width = c.requires.width in omega arith
 
-pub returns-in_ok-tell-in-Some : goal.returns-in_ok-tell-in-Some
-returns-in_ok-tell-in-Some c =
+pub returns-in_ok-raise_front-in-Some : goal.returns-in_ok-raise_front-in-Some
+returns-in_ok-raise_front-in-Some c =
     let swept = c.requires.sweeps.swept in
     let from : Segment = record { thread = c.args.thread; index = c.args.index } in
     let fork = c.in-Some.fork.now in
@@ -20,6 +20,6 @@ returns-in_ok-tell-in-Some c =
     let step : LeadsTo c.args.steps.now from (first_of fork.thread) = subst (λ a. LeadsTo c.args.steps.now a (first_of fork.thread)) same (swept.forks fork among) in
     record {
       forks = swept.forks;
-      size = c.tell.ensures.size ∙ swept.size;
-      rows = c.in_ok-tell-in-Some.ensures.rows c.args.steps.now c.requires.sweeps.sound c.requires.width c.requires.clock c.requires.apart step swept.rows;
+      size = c.raise_front.ensures.size ∙ swept.size;
+      rows = c.in_ok-raise_front-in-Some.ensures.rows c.args.steps.now c.requires.sweeps.sound c.requires.width c.requires.clock c.requires.apart step swept.rows;
     }

@@ -1,7 +1,7 @@
 use Rattle.std.proofs.Common.{sym, ap, ◌+◌, ◌∙◌}
 use Rattle.std.proofs.lemmas.List.{length_push}
 use Rattle.gl_segments.proofs.Noting.{tells_next}
-use Rattle.gl_segments.proofs.history.Growing.next.Goals as goal
+use Rattle.gl_segments.proofs.history.Growing.push_latest.Goals as goal
 
 pub returns-clause-noted : goal.returns-clause-noted
 returns-clause-noted c = λ clocks noted own.

@@ -2,7 +2,7 @@ use Rattle.std.proofs.Common.{◌≡◌, ◌+◌, inl, ap, subst, ◌∙◌, ari
 use Rattle.std.specs.Prelude.{slice_index}
 use Rattle.gl_segments.specs.bodies.Search.{Explores}
 use Rattle.gl_segments.proofs.Searching.{begin_explores}
-use Rattle.gl_segments.proofs.search.Search.run.Goals as goal
+use Rattle.gl_segments.proofs.search.Search.find_before.Goals as goal
 
 pub loop-done-init : goal.loop-done-init
 loop-done-init c = record {

@@ -1,6 +1,6 @@
 use Rattle.std.proofs.Common.{◌≡◌, ◌+◌, ◌-◌, ◌≤◌, length}
 use Rattle.gl_segments.specs.bodies.Search.{Explores, GrowsBy, unseen}
-use Rattle.gl_segments.proofs.search.Search.run.Given as goal
+use Rattle.gl_segments.proofs.search.Search.find_before.Given as goal
 
 -- the entries before `done` were looked at
 abbrev pub invariant-loop-done : goal.invariant-loop-done
