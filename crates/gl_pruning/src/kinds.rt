@@ -16,7 +16,7 @@ ghost use Rattle.gl_segments.specs.Clocks.{is_before};
 ghost use Rattle.gl_filters.specs.Picked.{edges_of_table};
 ghost use Rattle.gl_pruning.specs.bodies.Kinds.{AreAlike, HasModel, AreModels, HasModels, AreDead, NoneThrough};
 ghost use Rattle.gl_pruning.specs.bodies.Gaps.{AreDeadEnds, KnowsModels};
-ghost use Rattle.gl_pruning.specs.Sought.{KeepsSought};
+ghost use Rattle.gl_pruning.specs.Sought.{KeepsSought, GoesOnSeeking};
 ghost use Rattle.gl_edges.specs.declared.edge.Edge.{Edge};
 
 use crate::alike::are_alike;
@@ -109,7 +109,7 @@ impl Sought<'_> {
         kept: &mut Vec<bool>,
     ) -> Result<(), Memory>
         requires { KeepsSought self.now kept.old.items }
-        ensures { OnOk result (KeepsSought self.now kept.new.items) }
+        ensures { OnOk result (GoesOnSeeking self.now kept.old.items kept.new.items) }
     {
         if !has_any(kept) {
             return Ok(());
@@ -161,7 +161,7 @@ impl Sought<'_> {
         requires kept { KeepsSought self.now kept.old.items }
         requires dead { AreDead (is_before self.now.order.now) self.now.mode grain self.now.len
             (edges_of_table self.now.table.now) dead.now }
-        ensures { KeepsSought self.now kept.new.items }
+        ensures { GoesOnSeeking self.now kept.old.items kept.new.items }
     {
         let model = self.model_of(grain, model_of_each, i);
         if dead[model] {

@@ -5,7 +5,7 @@
 //! first: by kind, since there may be many edges of each kind; those that have no way back; by kind and
 //! thread; and single ones by their segments.
 ghost use Rattle.std.specs.Prelude.{IfOk, OnOk};
-ghost use Rattle.gl_pruning.specs.Sought.{KeepsSought};
+ghost use Rattle.gl_pruning.specs.Sought.{KeepsSought, GoesOnSeeking};
 
 use crate::grains::Grain;
 use crate::loops::edges_on_loops;
@@ -68,7 +68,7 @@ impl Sought<'_> {
         kept: &mut Vec<bool>,
     ) -> Result<(), Memory>
         requires { KeepsSought self.now kept.old.items }
-        ensures { OnOk result (KeepsSought self.now kept.new.items) }
+        ensures { OnOk result (GoesOnSeeking self.now kept.old.items kept.new.items) }
     {
         for reason in reasons() {
             self.leave_out_again(alloc, reason, effort, kept)?;
@@ -86,7 +86,7 @@ impl Sought<'_> {
         kept: &mut Vec<bool>,
     ) -> Result<(), Memory>
         requires { KeepsSought self.now kept.old.items }
-        ensures { OnOk result (KeepsSought self.now kept.new.items) }
+        ensures { OnOk result (GoesOnSeeking self.now kept.old.items kept.new.items) }
     {
         let part = Part::whole().within(effort);
         let before = count_set(kept);
@@ -106,7 +106,7 @@ impl Sought<'_> {
         kept: &mut Vec<bool>,
     ) -> Result<(), Memory>
         requires { KeepsSought self.now kept.old.items }
-        ensures { OnOk result (KeepsSought self.now kept.new.items) }
+        ensures { OnOk result (GoesOnSeeking self.now kept.old.items kept.new.items) }
     {
         match reason {
             Reason::Alike(grain) => self.leave_out_alike(alloc, grain, part, kept),
