@@ -4,8 +4,10 @@
 //! among edges of their own thread. The others are left out for one reason after the other, the cheaper ones
 //! first: by kind, since there may be many edges of each kind; those that have no way back; by kind and
 //! thread; and single ones by their segments.
-ghost use Rattle.std.specs.Prelude.{IfOk, OnOk};
+ghost use Rattle.std.specs.Prelude.{◌≡◌, ◌∷◌, [], IfOk, OnOk, count_by};
 ghost use Rattle.gl_pruning.specs.Sought.{KeepsSought, GoesOnSeeking};
+ghost use Rattle.gl_pruning.specs.declared.grains.Grain.TheVariants.{ByKind, ByThread, BySegment};
+ghost use Rattle.gl_pruning.specs.declared.reasons.Reason.TheVariants.{Alike, NoWay};
 
 use crate::grains::Grain;
 use crate::loops::edges_on_loops;
@@ -27,7 +29,9 @@ pub(crate) enum Reason {
 }
 
 /// The reasons, in their order.
-pub(crate) fn reasons() -> [Reason; 4] {
+pub(crate) fn reasons() -> [Reason; 4]
+    ensures { result ≡ Alike ByKind ∷ NoWay ∷ Alike ByThread ∷ Alike BySegment ∷ [] }
+{
     [
         Reason::Alike(Grain::ByKind),
         Reason::NoWay,
@@ -125,6 +129,8 @@ impl Sought<'_> {
 }
 
 /// How many flags are set.
-pub(crate) fn count_set(flags: &[bool]) -> usize {
+pub(crate) fn count_set(flags: &[bool]) -> usize
+    ensures { result ≡ count_by (λ flag. flag) flags.now }
+{
     flags.iter().filter(|&&flag| flag).count()
 }
