@@ -5,4 +5,5 @@ pub mod Answered
 pub mod Back
 pub mod ByKinds
 pub mod Closing
+pub mod Fewer
 pub mod OfOneKind

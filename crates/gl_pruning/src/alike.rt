@@ -28,7 +28,7 @@ pub fn are_of_one_kind(e: &Edge, f: &Edge) -> bool
 
 // Whether two edges have the same threads and segments, as far as the grain tells them apart.
 fn are_made_alike(grain: Grain, e: &Edge, f: &Edge) -> bool
-    ensures { IsTrue result → AreMadeAlike grain e.now f.now }
+    ensures { IsTrue result ↔ AreMadeAlike grain e.now f.now }
 {
     match grain {
         Grain::ByKind => true,
@@ -39,7 +39,7 @@ fn are_made_alike(grain: Grain, e: &Edge, f: &Edge) -> bool
 
 /// Whether two edges are alike.
 pub(crate) fn are_alike(grain: Grain, e: &Edge, f: &Edge) -> bool
-    ensures { IsTrue result → AreAlike grain e.now f.now }
+    ensures { IsTrue result ↔ AreAlike grain e.now f.now }
 {
     if !are_made_alike(grain, e, f) {
         return false;

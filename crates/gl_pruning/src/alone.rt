@@ -11,7 +11,8 @@ ghost use Rattle.std.specs.Prelude.{◌<◌, length, IsTrue, IfOk, OnOk};
 ghost use Rattle.gl_segments.specs.Clocks.{is_before};
 ghost use Rattle.gl_filters.specs.Picked.{edges_of_table};
 ghost use Rattle.gl_pruning.specs.OffCycles.{IsOffCycles};
-ghost use Rattle.gl_pruning.specs.Sought.{KeepsSought};
+ghost use Rattle.gl_pruning.specs.Sought.{KeepsSought, GoesOnSeeking};
+ghost use Rattle.gl_pruning.specs.bodies.Flags.{TellsIfAny};
 ghost use Rattle.gl_pruning.specs.bodies.Users.{KnowsCycles};
 ghost use Rattle.gl_index.specs.declared.sides.Side.TheVariants.{Follower, Leader};
 
@@ -61,7 +62,8 @@ impl Sought<'_> {
         requires holders { KnowsCycles self.now Leader holders.now }
         requires wanters { KnowsCycles self.now Follower wanters.now }
         requires kept { KeepsSought self.now kept.old.items }
-        ensures { KeepsSought self.now kept.new.items }
+        ensures goes_on { GoesOnSeeking self.now kept.old.items kept.new.items }
+        ensures any { TellsIfAny result kept.old.items kept.new.items }
     {
         if !kept[x] || !self.is_alone(holders, wanters, &self.table[x].0) {
             return false;
@@ -73,15 +75,14 @@ impl Sought<'_> {
     // Leaves out each edge that is alone among those that were kept before. Whether any was left out.
     fn leave_out_each_alone(&self, alloc: Global, kept: &mut Vec<bool>) -> Result<bool, Memory>
         requires { KeepsSought self.now kept.old.items }
-        ensures { OnOk result (KeepsSought self.now kept.new.items) }
+        ensures goes_on { OnOk result (GoesOnSeeking self.now kept.old.items kept.new.items) }
+        ensures any { IfOk result (λ any. TellsIfAny any kept.old.items kept.new.items) }
     {
         let holders = self.users(alloc, Side::Leader, kept)?;
         let wanters = self.users(alloc, Side::Follower, kept)?;
         let mut has_changed = false;
         for x in 0..self.table.len() {
-            if self.leave_out_if_alone(&holders, &wanters, kept, x) {
-                has_changed = true;
-            }
+            has_changed |= self.leave_out_if_alone(&holders, &wanters, kept, x);
         }
         Ok(has_changed)
     }
@@ -90,7 +91,7 @@ impl Sought<'_> {
     /// that is kept, each time.
     pub(crate) fn leave_out_alone(&self, alloc: Global, kept: &mut Vec<bool>) -> Result<(), Memory>
         requires { KeepsSought self.now kept.old.items }
-        ensures { OnOk result (KeepsSought self.now kept.new.items) }
+        ensures { OnOk result (GoesOnSeeking self.now kept.old.items kept.new.items) }
     {
         for _ in 0..PASSES {
             if !self.leave_out_each_alone(alloc, kept)? {

@@ -11,12 +11,13 @@
 //! One edge of each kind is its model, and rounds are looked for among models. Which edges are models
 //! of which is not proved; that an edge and its model are alike is checked, and an edge that isn't is
 //! its own model.
-ghost use Rattle.std.specs.Prelude.{◌≡◌, ◌<◌, ◌∷◌, [], ℕ, Some, true, length, slice_get, OnOk, IfOk};
+ghost use Rattle.std.specs.Prelude.{◌≡◌, ◌-◌, ◌<◌, ◌≤◌, ◌∷◌, [], ℕ, Some, true, length, slice_get, OnOk, IfOk};
 ghost use Rattle.gl_segments.specs.Clocks.{is_before};
 ghost use Rattle.gl_filters.specs.Picked.{edges_of_table};
 ghost use Rattle.gl_pruning.specs.bodies.Kinds.{AreAlike, HasModel, AreModels, HasModels, AreDead, NoneThrough};
 ghost use Rattle.gl_pruning.specs.bodies.Gaps.{AreDeadEnds, KnowsModels};
-ghost use Rattle.gl_pruning.specs.Sought.{KeepsSought};
+ghost use Rattle.gl_pruning.specs.Sought.{KeepsSought, GoesOnSeeking};
+ghost use Rattle.gl_pruning.specs.declared.kinds.TheConstants.{TRIES_OF_ONE};
 ghost use Rattle.gl_edges.specs.declared.edge.Edge.{Edge};
 
 use crate::alike::are_alike;
@@ -109,9 +110,9 @@ impl Sought<'_> {
         kept: &mut Vec<bool>,
     ) -> Result<(), Memory>
         requires { KeepsSought self.now kept.old.items }
-        ensures { OnOk result (KeepsSought self.now kept.new.items) }
+        ensures { OnOk result (GoesOnSeeking self.now kept.old.items kept.new.items) }
     {
-        if !has_any(kept) {
+        if !kept.contains(&true) {
             return Ok(());
         }
         let model_of_each = models_of(alloc, self.table, kept, grain)?;
@@ -161,23 +162,13 @@ impl Sought<'_> {
         requires kept { KeepsSought self.now kept.old.items }
         requires dead { AreDead (is_before self.now.order.now) self.now.mode grain self.now.len
             (edges_of_table self.now.table.now) dead.now }
-        ensures { KeepsSought self.now kept.new.items }
+        ensures { GoesOnSeeking self.now kept.old.items kept.new.items }
     {
         let model = self.model_of(grain, model_of_each, i);
         if dead[model] {
             kept[i] = false;
         }
     }
-}
-
-// Whether a flag is set.
-fn has_any(flags: &[bool]) -> bool {
-    for &flag in flags {
-        if flag {
-            return true;
-        }
-    }
-    false
 }
 
 /// How much may still be done.
@@ -191,12 +182,18 @@ pub(crate) struct Effort {
 
 impl Effort {
     // How many models may be tried for one.
-    fn tries_of_one(&self) -> usize {
+    fn tries_of_one(&self) -> usize
+        ensures one { result ≤ TRIES_OF_ONE }
+        ensures all { result ≤ self.now.tries }
+    {
         TRIES_OF_ONE.min(self.tries)
     }
 
     // Some models were tried.
-    fn spend(&mut self, tries: usize) {
+    fn spend(&mut self, tries: usize)
+        ensures tries { self.new.tries ≡ self.old.tries - tries }
+        ensures tests { self.new.tests ≡ self.old.tests }
+    {
         self.tries = self.tries.saturating_sub(tries);
     }
 }
@@ -242,6 +239,8 @@ impl Rounds<'_> {
         requires ends { AreDeadEnds self.now ends.old.known.items }
         ensures none { IfOk result (λ is. is ≡ true → NoneThrough self.now (i ∷ [])) }
         ensures ends { OnOk result (AreDeadEnds self.now ends.new.known.items) }
+        ensures tries { effort.new.tries ≤ effort.old.tries }
+        ensures tests { effort.new.tests ≤ effort.old.tests }
     {
         if !part.has(i) {
             return Ok(false);

@@ -6,11 +6,12 @@
 //!
 //! That there is no walk is seen by labels of locks, which grow by one at the most along each edge
 //! that may be on it. How labels are found is not proved; they are checked.
-ghost use Rattle.std.specs.Prelude.{◌≡◌, ◌+◌, ◌<◌, ◌≤◌, Some, true, false, length, slice_get, IsTrue, OnOk};
+ghost use Rattle.std.specs.Prelude.{◌≡◌, ◌+◌, ◌<◌, ◌≤◌, Some, true, false, length, slice_get, IsTrue, IfOk, OnOk};
 ghost use Rattle.gl_segments.specs.Clocks.{is_before};
 ghost use Rattle.gl_filters.specs.Test.{goes_with};
 ghost use Rattle.gl_filters.specs.Picked.{edges_of_table};
-ghost use Rattle.gl_pruning.specs.Sought.{KeepsSought};
+ghost use Rattle.gl_pruning.specs.Sought.{KeepsSought, GoesOnSeeking};
+ghost use Rattle.gl_pruning.specs.bodies.Flags.{TellsIfAny};
 ghost use Rattle.gl_pruning.specs.bodies.Walks.{IsNumbered, label_at, ShowsNoWay};
 
 use crate::numbers::{Ends, Numbers};
@@ -108,7 +109,8 @@ impl Sought<'_> {
         requires kept { KeepsSought self.now kept.old.items }
         requires ended { length ends.now ≡ length self.now.table.now }
         requires numbered { IsNumbered (edges_of_table self.now.table.now) ends.now }
-        ensures { OnOk result (KeepsSought self.now kept.new.items) }
+        ensures goes_on { OnOk result (GoesOnSeeking self.now kept.old.items kept.new.items) }
+        ensures any { IfOk result (λ any. TellsIfAny any kept.old.items kept.new.items) }
     {
         if !part.has(x) {
             return Ok(false);
@@ -135,13 +137,12 @@ impl Sought<'_> {
         requires kept { KeepsSought self.now kept.old.items }
         requires ended { length ends.now ≡ length self.now.table.now }
         requires numbered { IsNumbered (edges_of_table self.now.table.now) ends.now }
-        ensures { OnOk result (KeepsSought self.now kept.new.items) }
+        ensures goes_on { OnOk result (GoesOnSeeking self.now kept.old.items kept.new.items) }
+        ensures any { IfOk result (λ any. TellsIfAny any kept.old.items kept.new.items) }
     {
         let mut has_changed = false;
         for x in 0..self.table.len() {
-            if self.leave_out_at(part, ways, ends, kept, x)? {
-                has_changed = true;
-            }
+            has_changed |= self.leave_out_at(part, ways, ends, kept, x)?;
         }
         Ok(has_changed)
     }
@@ -155,7 +156,7 @@ impl Sought<'_> {
         kept: &mut Vec<bool>,
     ) -> Result<(), Memory>
         requires { KeepsSought self.now kept.old.items }
-        ensures { OnOk result (KeepsSought self.now kept.new.items) }
+        ensures { OnOk result (GoesOnSeeking self.now kept.old.items kept.new.items) }
     {
         let numbers = Numbers::of(alloc, self.table)?;
         let ends = numbers.of_edges(alloc, self.table)?;

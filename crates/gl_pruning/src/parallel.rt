@@ -2,8 +2,8 @@
 //!
 //! The positions of a table are dealt out to parts. In each part a thread leaves out edges of its own,
 //! and knows nothing of the others. An edge stays that stays by each of them.
-ghost use Rattle.std.specs.Prelude.{◌<◌, length, All, IfOk, OnOk};
-ghost use Rattle.gl_pruning.specs.Sought.{KeepsSought};
+ghost use Rattle.std.specs.Prelude.{◌≡◌, ◌<◌, Some, false, length, slice_get, All, IfOk, OnOk};
+ghost use Rattle.gl_pruning.specs.Sought.{KeepsSought, StayLeftOut, GoesOnSeeking};
 
 use crate::parts::Part;
 use crate::reasons::{ALL_EFFORT, Reason, count_set, reasons};
@@ -45,7 +45,8 @@ impl Sought<'_> {
         requires there { i < length self.now.table.now }
         requires stay { KeepsSought self.now stay.now }
         requires kept { KeepsSought self.now kept.old.items }
-        ensures { KeepsSought self.now kept.new.items }
+        ensures goes_on { GoesOnSeeking self.now kept.old.items kept.new.items }
+        ensures out { slice_get stay.now i ≡ Some false → slice_get kept.new.items i ≡ Some false }
     {
         if !stay[i] {
             kept[i] = false;
@@ -56,7 +57,8 @@ impl Sought<'_> {
     fn leave_out_others(&self, stay: &[bool], kept: &mut Vec<bool>)
         requires stay { KeepsSought self.now stay.now }
         requires kept { KeepsSought self.now kept.old.items }
-        ensures { KeepsSought self.now kept.new.items }
+        ensures goes_on { GoesOnSeeking self.now kept.old.items kept.new.items }
+        ensures out { StayLeftOut stay.now kept.new.items }
     {
         for i in 0..self.table.len() {
             self.leave_out_unless(stay, kept, i);
@@ -99,7 +101,7 @@ fn leave_out_by_parts(
     kept: &mut Vec<bool>,
 ) -> Result<(), Memory>
     requires kept { KeepsSought sought.now kept.old.items }
-    ensures { OnOk result (KeepsSought sought.now kept.new.items) }
+    ensures { OnOk result (GoesOnSeeking sought.now kept.old.items kept.new.items) }
 {
     if count_set(kept) <= FEW {
         return sought.leave_out(alloc, reason, Part::whole().within(effort), kept);
@@ -120,7 +122,7 @@ fn leave_out_in_passes(
     kept: &mut Vec<bool>,
 ) -> Result<(), Memory>
     requires kept { KeepsSought sought.now kept.old.items }
-    ensures { OnOk result (KeepsSought sought.now kept.new.items) }
+    ensures { OnOk result (GoesOnSeeking sought.now kept.old.items kept.new.items) }
 {
     for _ in 0..PASSES {
         let before = count_set(kept);
@@ -142,7 +144,7 @@ fn leave_out_parallel(
     kept: &mut Vec<bool>,
 ) -> Result<(), Memory>
     requires kept { KeepsSought sought.now kept.old.items }
-    ensures { OnOk result (KeepsSought sought.now kept.new.items) }
+    ensures { OnOk result (GoesOnSeeking sought.now kept.old.items kept.new.items) }
 {
     match reason {
         Reason::Alike(_) => leave_out_by_parts(rt, alloc, sought, reason, effort, kept),
@@ -162,7 +164,7 @@ pub fn leave_out_in_turn_parallel(
     kept: &mut Vec<bool>,
 ) -> Result<(), Memory>
     requires kept { KeepsSought sought.now kept.old.items }
-    ensures { OnOk result (KeepsSought sought.now kept.new.items) }
+    ensures { OnOk result (GoesOnSeeking sought.now kept.old.items kept.new.items) }
 {
     for reason in reasons() {
         leave_out_parallel(rt, alloc, sought, reason, effort, kept)?;

@@ -1,4 +1,5 @@
 //! Parts of a table, for several threads.
+ghost use Rattle.std.specs.Prelude.{◌≡◌, ◌≤◌};
 
 /// Each so many-th position of a table, from one on, and how much may be done for all parts. Nothing
 /// relies on which positions these are.
@@ -16,7 +17,10 @@ impl Part {
     }
 
     /// One of so many parts, by its number from 0.
-    pub(crate) fn one(number: usize, of: usize) -> Part {
+    pub(crate) fn one(number: usize, of: usize) -> Part
+        ensures number { result.number ≡ number }
+        ensures of { result.of ≡ of }
+    {
         Part {
             number,
             of,
@@ -25,7 +29,9 @@ impl Part {
     }
 
     /// The same part, where no more than so much may be done for all parts.
-    pub(crate) fn within(self, effort: usize) -> Part {
+    pub(crate) fn within(self, effort: usize) -> Part
+        ensures { result ≡ record { number = self.number; of = self.of; effort = effort } }
+    {
         Part { effort, ..self }
     }
 
@@ -35,7 +41,10 @@ impl Part {
     }
 
     /// What this part has of something that is dealt out evenly, as far as it may be done.
-    pub(crate) fn share_of(self, all: usize) -> usize {
+    pub(crate) fn share_of(self, all: usize) -> usize
+        ensures all { result ≤ all }
+        ensures effort { result ≤ self.effort }
+    {
         let some = all.min(self.effort);
         if self.of == 0 {
             return some;

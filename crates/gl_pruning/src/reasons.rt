@@ -4,8 +4,10 @@
 //! among edges of their own thread. The others are left out for one reason after the other, the cheaper ones
 //! first: by kind, since there may be many edges of each kind; those that have no way back; by kind and
 //! thread; and single ones by their segments.
-ghost use Rattle.std.specs.Prelude.{IfOk, OnOk};
-ghost use Rattle.gl_pruning.specs.Sought.{KeepsSought};
+ghost use Rattle.std.specs.Prelude.{◌≡◌, ◌∷◌, [], IfOk, OnOk, count_by};
+ghost use Rattle.gl_pruning.specs.Sought.{KeepsSought, GoesOnSeeking};
+ghost use Rattle.gl_pruning.specs.declared.grains.Grain.TheVariants.{ByKind, ByThread, BySegment};
+ghost use Rattle.gl_pruning.specs.declared.reasons.Reason.TheVariants.{Alike, NoWay};
 
 use crate::grains::Grain;
 use crate::loops::edges_on_loops;
@@ -27,7 +29,9 @@ pub(crate) enum Reason {
 }
 
 /// The reasons, in their order.
-pub(crate) fn reasons() -> [Reason; 4] {
+pub(crate) fn reasons() -> [Reason; 4]
+    ensures { result ≡ Alike ByKind ∷ NoWay ∷ Alike ByThread ∷ Alike BySegment ∷ [] }
+{
     [
         Reason::Alike(Grain::ByKind),
         Reason::NoWay,
@@ -68,7 +72,7 @@ impl Sought<'_> {
         kept: &mut Vec<bool>,
     ) -> Result<(), Memory>
         requires { KeepsSought self.now kept.old.items }
-        ensures { OnOk result (KeepsSought self.now kept.new.items) }
+        ensures { OnOk result (GoesOnSeeking self.now kept.old.items kept.new.items) }
     {
         for reason in reasons() {
             self.leave_out_again(alloc, reason, effort, kept)?;
@@ -86,7 +90,7 @@ impl Sought<'_> {
         kept: &mut Vec<bool>,
     ) -> Result<(), Memory>
         requires { KeepsSought self.now kept.old.items }
-        ensures { OnOk result (KeepsSought self.now kept.new.items) }
+        ensures { OnOk result (GoesOnSeeking self.now kept.old.items kept.new.items) }
     {
         let part = Part::whole().within(effort);
         let before = count_set(kept);
@@ -106,7 +110,7 @@ impl Sought<'_> {
         kept: &mut Vec<bool>,
     ) -> Result<(), Memory>
         requires { KeepsSought self.now kept.old.items }
-        ensures { OnOk result (KeepsSought self.now kept.new.items) }
+        ensures { OnOk result (GoesOnSeeking self.now kept.old.items kept.new.items) }
     {
         match reason {
             Reason::Alike(grain) => self.leave_out_alike(alloc, grain, part, kept),
@@ -125,6 +129,8 @@ impl Sought<'_> {
 }
 
 /// How many flags are set.
-pub(crate) fn count_set(flags: &[bool]) -> usize {
+pub(crate) fn count_set(flags: &[bool]) -> usize
+    ensures { result ≡ count_by (λ flag. flag) flags.now }
+{
     flags.iter().filter(|&&flag| flag).count()
 }

@@ -4,7 +4,7 @@
 //! is one of the rest, and narrows it. Very many paths may leave the same gap and the same rest, as
 //! where there are fewer gate locks than edges of a round: what was once found to lead nowhere isn't
 //! tried again.
-ghost use Rattle.std.specs.Prelude.{◌≡◌, ◌<◌, ◌∷◌, [], ℕ, Some, true, false, length, slice_get, OnOk, IfOk, All, Contains};
+ghost use Rattle.std.specs.Prelude.{◌≡◌, ◌↔◌, ◌-◌, ◌<◌, ◌≤◌, ◌∷◌, [], ℕ, Some, true, false, if◌then◌else◌, length, slice_get, IsTrue, OnOk, IfOk, All, Contains};
 ghost use Rattle.gl_segments.specs.Clocks.{is_before};
 ghost use Rattle.gl_filters.specs.Picked.{edges_of_table};
 ghost use Rattle.gl_pruning.specs.bodies.Kinds.{may_meet, AreWithin, HasModels, NoneThrough};
@@ -62,6 +62,7 @@ impl Rounds<'_> {
         requires ends { AreDeadEnds self.now ends.old.known.items }
         ensures none { IfOk result (λ is. is ≡ true → NoneThrough self.now (root ∷ [])) }
         ensures ends { OnOk result (AreDeadEnds self.now ends.new.known.items) }
+        ensures spent { tests.new ≤ tests.old }
     {
         if !take_tests(tests, models.len()) {
             return Ok(false);
@@ -127,6 +128,7 @@ impl Rounds<'_> {
         requires ends { AreDeadEnds self.now ends.old.known.items }
         ensures none { IfOk result (λ may. may ≡ false → IsDeadEnd self.now gap.now rest.now) }
         ensures ends { OnOk result (AreDeadEnds self.now ends.new.known.items) }
+        ensures spent { tests.new ≤ tests.old }
     {
         if gap.is_closed() {
             return Ok(true);
@@ -174,6 +176,7 @@ impl Rounds<'_> {
             self.now.sought.len
             (edges_of_table self.now.sought.table.now) self.now.flags.items gap.now rest.now next) }
         ensures ends { OnOk result (AreDeadEnds self.now ends.new.known.items) }
+        ensures spent { tests.new ≤ tests.old }
     {
         let edge = &self.sought.table[next].0;
         if !gap.leads_to(edge) {
@@ -189,7 +192,10 @@ impl Rounds<'_> {
 }
 
 // Takes so many of the tests that may still be made, if there are as many. Whether there were.
-fn take_tests(tests: &mut usize, some: usize) -> bool {
+fn take_tests(tests: &mut usize, some: usize) -> bool
+    ensures enough { IsTrue result ↔ some ≤ tests.old }
+    ensures taken { tests.new ≡ (if result then tests.old - some else tests.old) }
+{
     let before = *tests;
     if before < some {
         return false;

@@ -1,5 +1,5 @@
 //! Rounds of models: paths of them that come back to where they began.
-ghost use Rattle.std.specs.Prelude.{◌≡◌, ◌<◌, ◌≤◌, ◌∷◌, ◌++◌, [], ℕ, Some, false, length, slice_get};
+ghost use Rattle.std.specs.Prelude.{◌≡◌, ◌-◌, ◌<◌, ◌≤◌, ◌∷◌, ◌++◌, [], ℕ, Some, false, length, slice_get};
 ghost use Rattle.gl_segments.specs.Clocks.{is_before};
 ghost use Rattle.gl_filters.specs.Picked.{edges_of_table};
 ghost use Rattle.gl_filters.specs.declared.lengths.TheConstants.{LONGEST};
@@ -96,7 +96,8 @@ impl Rounds<'_> {
         requires some { 0 < length path.now }
         requires within { AreWithin self.now path.now }
         requires models { HasModels self.now }
-        ensures { result ≡ false → NoneThrough self.now path.now }
+        ensures none { result ≡ false → NoneThrough self.now path.now }
+        ensures spent { tries.new ≤ tries.old }
     {
         if self.is_closed(path) {
             return true;
@@ -126,7 +127,8 @@ impl Rounds<'_> {
         requires within { AreWithin self.now path.now }
         requires there { next < length self.now.sought.table.now }
         requires models { HasModels self.now }
-        ensures { result ≡ false → NoneThrough self.now (path.now ++ next ∷ []) }
+        ensures none { result ≡ false → NoneThrough self.now (path.now ++ next ∷ []) }
+        ensures spent { tries.new ≤ tries.old - 1 }
     {
         if *tries == 0 {
             return true;

@@ -1,8 +1,6 @@
-use Rattle.gl_segments.specs.Clocks.{is_before}
-use Rattle.gl_filters.specs.Picked.{edges_of_table}
-use Rattle.gl_pruning.specs.OffCycles.{KeepsCycles}
+use Rattle.gl_pruning.specs.Sought.{GoesOnSeeking}
 use Rattle.gl_pruning.proofs.parallel.leave_out_by_parts.Given as goal
 
--- so far only edges that are in no cycle are left out
+-- so far only edges that are in no cycle were left out, and none came back
 abbrev pub invariant-loop-i : goal.invariant-loop-i
-invariant-loop-i g l = KeepsCycles (is_before l.sought.order.now) l.sought.mode l.sought.len (edges_of_table l.sought.table.now) l.kept.items
+invariant-loop-i g l = GoesOnSeeking l.sought l.fn.kept.items l.kept.items

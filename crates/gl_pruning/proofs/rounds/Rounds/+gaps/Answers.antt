@@ -30,6 +30,7 @@ may_close_gap-loop-place-preserved t c =
       c.in_ok-may.ensures.ends,
       tried_next (is_before s.order.now) s.mode r.grain s.len (edges_of_table s.table.now) r.flags.items c.args.gap.now c.args.rest.now c.loop-place.place _ c.loop-place.invariant.1
           (λ i at. get_or_from_slice_get c.args.rest.now c.loop-place.place i _ at) (c.in_ok-may.ensures.none c.if-may.false),
+      omega (arith, c.loop-place.invariant.2, c.in_ok-may.ensures.spent),
     )
 
 -- all were tried

@@ -1,4 +1,4 @@
-use Rattle.std.proofs.Common.{◌≡◌, ℕ, ◌+◌, ◌*◌, ◌<◌, Some}
+use Rattle.std.proofs.Common.{◌≡◌, ℕ, ◌+◌, ◌*◌, ◌<◌, ◌≤◌, Some}
 use Rattle.std.specs.Prelude.{slice_get}
 use Rattle.gl_segments.specs.Clocks.{is_before}
 use Rattle.gl_filters.specs.Picked.{edges_of_table}
@@ -16,4 +16,4 @@ decreases-may_close_gap_by l = 2 * l.gap.now.left
 abbrev pub invariant-may_close_gap-loop-place : goal.invariant-may_close_gap-loop-place
 invariant-may_close_gap-loop-place l =
     AreHopeless (is_before l.self.sought.order.now) l.self.sought.mode l.self.grain l.self.sought.len (edges_of_table l.self.sought.table.now) l.self.flags.items l.ends.known.items
-    × ((p i : ℕ) → p < l.place → slice_get l.rest p ≡ Some i → NoneBy (is_before l.self.sought.order.now) l.self.sought.mode l.self.grain l.self.sought.len (edges_of_table l.self.sought.table.now) l.self.flags.items l.gap l.rest i)
+    × ((p i : ℕ) → p < l.place → slice_get l.rest p ≡ Some i → NoneBy (is_before l.self.sought.order.now) l.self.sought.mode l.self.grain l.self.sought.len (edges_of_table l.self.sought.table.now) l.self.flags.items l.gap l.rest i) × (l.tests ≤ l.fn.tests)

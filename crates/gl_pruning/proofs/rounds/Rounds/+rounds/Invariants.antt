@@ -1,4 +1,4 @@
-use Rattle.std.proofs.Common.{◌≡◌, ◌+◌, ◌-◌, ◌*◌, Some, length, get_or}
+use Rattle.std.proofs.Common.{◌≡◌, ◌+◌, ◌-◌, ◌*◌, ◌≤◌, Some, length, get_or}
 use Rattle.std.specs.Prelude.{slice_get, unwrap_or}
 use Rattle.gl_edges.specs.declared.edge.Edge.{Edge}
 use Rattle.gl_segments.specs.Clocks.{is_before}
@@ -17,8 +17,11 @@ decreases-may_close_by l = 2 * (LONGEST - length l.path.now)
 -- the models before the next one were tried
 abbrev pub invariant-may_close-loop-next : goal.invariant-may_close-loop-next
 invariant-may_close-loop-next l =
-    (e : Edge) → slice_get (edges_of_table l.self.sought.table.now) (get_or l.path (length l.path - 1) 0) ≡ Some e
-    → AreTried (is_before l.self.sought.order.now) l.self.sought.mode l.self.grain l.self.sought.len (edges_of_table l.self.sought.table.now) l.self.flags.items l.path e.wanted l.next
+    record {
+      tried : (e : Edge) → slice_get (edges_of_table l.self.sought.table.now) (get_or l.path (length l.path - 1) 0) ≡ Some e
+          → AreTried (is_before l.self.sought.order.now) l.self.sought.mode l.self.grain l.self.sought.len (edges_of_table l.self.sought.table.now) l.self.flags.items l.path e.wanted l.next;
+      spent : l.tries ≤ l.fn.tries;
+    }
 
 -- how many positions are left
 abbrev pub decreases-may_close-loop-next : goal.decreases-may_close-loop-next

@@ -6,6 +6,7 @@ use Rattle.gl_segments.specs.Clocks.{is_before}
 use Rattle.gl_filters.specs.Picked.{edges_of_table}
 use Rattle.gl_pruning.proofs.Back.{keeps_more}
 use Rattle.gl_pruning.proofs.ByKinds.{off_by_model}
+use Rattle.gl_pruning.proofs.Fewer.{stay_out_at}
 use Rattle.gl_pruning.proofs.sought.Sought.leave_out_dead.Goals as goal
 
 pub returns-then-dead-model : goal.returns-then-dead-model
@@ -18,5 +19,6 @@ returns-then-dead-model c =
     let here = element_at edges model (omega (arith, c.model_of-model.ensures.within, long)) in
     let flag = slice_get-get_or c.args.dead.now model false (omega (arith, c.model_of-model.ensures.within, c.requires.dead.long, long)) ∙ ap Some c.if-dead-model.true in
     let within : c.args.i < length c.args.kept.now.items = omega (arith, c.requires.there, c.requires.kept.long, long) in
-    keeps_more before s.mode s.len edges c.args.kept.now.items c.requires.kept c.args.i within
+    let keeps = keeps_more before s.mode s.len edges c.args.kept.now.items c.requires.kept c.args.i within
     (λ e at. off_by_model before s.mode c.args.grain s.len edges c.args.kept.now.items model here.0 e here.1 (c.model_of-model.ensures.alike here.0 e here.1 at) (c.requires.dead.each model flag))
+    in record { keeps = keeps; stay = stay_out_at c.args.kept.now.items c.args.i within }

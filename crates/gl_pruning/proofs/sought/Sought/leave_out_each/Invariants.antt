@@ -1,8 +1,10 @@
-use Rattle.gl_segments.specs.Clocks.{is_before}
-use Rattle.gl_filters.specs.Picked.{edges_of_table}
-use Rattle.gl_pruning.specs.OffCycles.{KeepsCycles}
+use Rattle.gl_pruning.specs.Sought.{GoesOnSeeking}
+use Rattle.gl_pruning.specs.bodies.Flags.{TellsIfAny}
 use Rattle.gl_pruning.proofs.sought.Sought.leave_out_each.Given as goal
 
--- so far only edges that are in no cycle are left out
+-- so far only edges that are in no cycle were left out, none came back, and it is known whether there were any
 abbrev pub invariant-loop-x : goal.invariant-loop-x
-invariant-loop-x l = KeepsCycles (is_before l.self.order.now) l.self.mode l.self.len (edges_of_table l.self.table.now) l.kept.items
+invariant-loop-x l = record {
+  goes_on : GoesOnSeeking l.self l.fn.kept.items l.kept.items;
+  any : TellsIfAny l.has_changed l.fn.kept.items l.kept.items;
+}

@@ -5,11 +5,17 @@ use Rattle.gl_filters.specs.Picked.{edges_of_table}
 use Rattle.gl_pruning.specs.OffCycles.{IsOffCycles}
 use Rattle.gl_pruning.proofs.Back.{keeps_more}
 use Rattle.gl_pruning.proofs.ByKinds.{edge_is}
+use Rattle.gl_pruning.proofs.Fewer.{stay_out_at, tells_one, tells_none}
 use Rattle.gl_pruning.proofs.sought.Sought.leave_out_if_alone.Goals as goal
 
 pub returns : goal.returns
 returns c =
     let s = c.args.self.now in
     let within : c.args.x < length c.args.kept.now.items = omega (arith, c.requires.there, c.requires.kept.long, length-map s.table.now (λ pair. pair.0)) in
-    keeps_more (is_before s.order.now) s.mode s.len (edges_of_table s.table.now) c.args.kept.now.items c.requires.kept c.args.x within
+    let stays = stay_out_at c.args.kept.now.items c.args.x within in
+    let keeps = keeps_more (is_before s.order.now) s.mode s.len (edges_of_table s.table.now) c.args.kept.now.items c.requires.kept c.args.x within
     (λ e at. subst (IsOffCycles (is_before s.order.now) s.mode s.len (edges_of_table s.table.now)) (sym (edge_is s.table.now c.index-self-x.result c.args.x e c.requires.there at)) (c.if-not-is_alone.ensures refl))
+    in record {
+      goes_on = record { keeps = keeps; stay = stays };
+      any = tells_one c.args.kept.now.items c.args.x within c.index.result.now c.index.ensures c.if-not-index.false;
+    }

@@ -1,8 +1,6 @@
-use Rattle.gl_segments.specs.Clocks.{is_before}
-use Rattle.gl_filters.specs.Picked.{edges_of_table}
-use Rattle.gl_pruning.specs.OffCycles.{KeepsCycles}
+use Rattle.gl_pruning.specs.Sought.{GoesOnSeeking}
 use Rattle.gl_pruning.proofs.sought.Sought.leave_out_in_turn.Given as goal
 
--- so far only edges that are in no cycle are left out
+-- so far only edges that are in no cycle were left out, and none came back
 abbrev pub invariant-loop-reason : goal.invariant-loop-reason
-invariant-loop-reason l = KeepsCycles (is_before l.self.order.now) l.self.mode l.self.len (edges_of_table l.self.table.now) l.kept.items
+invariant-loop-reason l = GoesOnSeeking l.self l.fn.kept.items l.kept.items

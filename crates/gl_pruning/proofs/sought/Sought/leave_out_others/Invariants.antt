@@ -1,8 +1,11 @@
-use Rattle.gl_segments.specs.Clocks.{is_before}
-use Rattle.gl_filters.specs.Picked.{edges_of_table}
-use Rattle.gl_pruning.specs.OffCycles.{KeepsCycles}
+use Rattle.std.proofs.Common.{◌≡◌, ℕ, ◌<◌, false, Some}
+use Rattle.std.specs.Prelude.{slice_get}
+use Rattle.gl_pruning.specs.Sought.{GoesOnSeeking}
 use Rattle.gl_pruning.proofs.sought.Sought.leave_out_others.Given as goal
 
--- so far only edges that are in no cycle are left out
+-- so far only edges that are in no cycle were left out, and among them all that don't stay
 abbrev pub invariant-loop-i : goal.invariant-loop-i
-invariant-loop-i l = KeepsCycles (is_before l.self.order.now) l.self.mode l.self.len (edges_of_table l.self.table.now) l.kept.items
+invariant-loop-i l = record {
+  goes_on : GoesOnSeeking l.self l.fn.kept.items l.kept.items;
+  out : (i : ℕ) → i < l.i → slice_get l.stay i ≡ Some false → slice_get l.kept.items i ≡ Some false;
+}
