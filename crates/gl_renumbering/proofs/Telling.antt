@@ -1,11 +1,11 @@
 -- Events that are numbered by names, while more names are mentioned.
-use Rattle.std.proofs.Common.{◌≡◌, ℕ, zero, suc, ◌+◌, ◌<◌, Bool, true, false, ◌&&◌, List, [], ◌∷◌, ◌++◌, length, map, take, get_or, position, Some, refl, sym, ap, ◌∙◌}
+use Rattle.std.proofs.Common.{◌≡◌, ◌≢◌, ℕ, zero, suc, ◌+◌, ◌<◌, Bool, true, false, ◌&&◌, List, [], ◌∷◌, ◌++◌, length, map, take, get_or, position, Some, refl, sym, ap, ◌∙◌, arith}
 use Rattle.std.specs.Prelude.{slice_get}
 use Rattle.std.specs.List.{flat_map, list_all}
 use Rattle.std.specs.Option.{option_map}
 use Rattle.std.specs.Str.{bytes_eq}
 use Rattle.std.proofs.lemmas.Bool.{false≢true}
-use Rattle.std.proofs.lemmas.List.{append-nil, take_more}
+use Rattle.std.proofs.lemmas.List.{append-nil, length-map, take_more}
 use Rattle.std.proofs.lemmas.Grind.{flat_map-append}
 use Rattle.std.proofs.lemmas.Option.{slice_get-map, slice_get_read}
 use Rattle.gl_event.specs.declared.events.Event.{Event}
@@ -93,3 +93,7 @@ one_passes p xs i x at all = by (p x) refl
 -- the list in a row
 pub list_at : {R : Type 0} (items : R → List Event) (rows : List R) (i : ℕ) (row : R) → i < length rows → row ≡ get_or rows i row → slice_get (map items rows) i ≡ Some (items row)
 list_at items rows i row within at = slice_get-map items rows i ∙ ap (option_map items) (slice_get_read rows (length rows) i row refl within at)
+
+-- there are lists where there are rows
+pub some_lists : {R : Type 0} (items : R → List Event) (rows : List R) (i : ℕ) → i < length rows → map items rows ≢ []
+some_lists items rows i within none = absurd (omega (arith, within, length-map rows items, ap length none))

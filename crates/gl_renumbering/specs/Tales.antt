@@ -1,6 +1,6 @@
 -- What lists of events tell, whatever numbers their locks and locations have; and the lists that tell the same with locks and
 -- locations numbered by first mention: thread 0's list first, event by event, then thread 1's, and so on.
-use Rattle.std.specs.Prelude.{◌≡◌, ℕ, Bool, ◌&&◌, List, [], Option, Some, None, length, map, nat_lt}
+use Rattle.std.specs.Prelude.{◌≡◌, ◌≢◌, ◌⊎◌, ℕ, Bool, ◌&&◌, List, [], Option, Some, None, length, map, nat_lt}
 use Rattle.std.specs.List.{filter_map, flat_map, fold, list_all}
 use Rattle.gl_event.specs.Bounds.{Bounds}
 use Rattle.gl_event.specs.Lawful.{EachIsLawful}
@@ -93,6 +93,14 @@ has_names names (Join thread loc) = is_named names.locs loc
 -- the locks and locations of all events have names
 abbrev pub have_names : NameLists → List (List Event) → Bool
 have_names names lists = list_all (list_all (has_names names)) lists
+
+-- no names, of anything
+abbrev pub no_names : NameLists
+no_names = record { threads = []; locks = []; locs = [] }
+
+-- there is a name or a list
+abbrev pub IsThereToNumber : NameLists → List (List Event) → Type 0
+IsThereToNumber names lists = (names ≢ no_names) ⊎ (lists ≢ [])
 
 -- where the old lists are lawful, under whichever limits, so are the new ones
 abbrev pub StayLawful : List (List Event) → List (List Event) → Type 0

@@ -1,9 +1,9 @@
 //! Numbers by first mention, event by event.
-ghost use Rattle.std.specs.Prelude.{◌≡◌, ◌≢◌, ◌+◌, ◌^◌, ◌<◌, [], ◌∷◌, true, Some, None, length, position, AllPairs, IfOk, OnOk};
+ghost use Rattle.std.specs.Prelude.{◌≡◌, ◌≢◌, ◌+◌, ◌^◌, ◌<◌, [], ◌∷◌, true, Some, None, length, position, AllPairs, IfOk, OnErr, OnOk};
 ghost use Rattle.std.specs.Str.{bytes_eq};
 ghost use Rattle.gl_std.specs.Names.{with_new};
 ghost use Rattle.gl_writing.specs.Written.{name_at};
-ghost use Rattle.gl_renumbering.specs.Tales.{has_names, mentioned, told};
+ghost use Rattle.gl_renumbering.specs.Tales.{has_names, mentioned, no_names, told};
 ghost use Rattle.gl_renumbering.specs.bodies.Tables.{IsBlank, StandsFor, StaysToldBy};
 
 use crate::threads::names_of_threads;
@@ -22,7 +22,8 @@ pub(crate) struct Numbers {
 
 // A table of so many numbers, none of them known yet.
 fn blank_table(alloc: Global, count: u32) -> Result<Vec<Option<u32>>, Memory>
-    ensures { IfOk result (λ table. IsBlank count table.items) }
+    ensures blank { IfOk result (λ table. IsBlank count table.items) }
+    ensures memory { OnErr result (0 < count) }
 {
     let mut table = Vec::new(alloc);
     for _ in 0..count {
@@ -75,6 +76,7 @@ impl Numbers {
         ensures names { IfOk result
             (λ numbers. numbers.names ≡ record names.now { locks = []; locs = [] }) }
         ensures differ { OnOk result (AllPairs (λ a b. a ≢ b) names.now.locks) }
+        ensures memory { OnErr result (names.now ≢ no_names) }
     {
         let alone = names_of_threads(alloc, names)?;
         Ok(Numbers {

@@ -1,9 +1,9 @@
 //! Lists of events with locks and locations numbered by first mention.
-ghost use Rattle.std.specs.Prelude.{◌≡◌, ◌↔◌, true, false, Err, map, IfOk, OnOk};
+ghost use Rattle.std.specs.Prelude.{◌≡◌, ◌↔◌, true, false, Err, map, IfOk, OnErr, OnOk};
 ghost use Rattle.std.specs.List.{list_all};
-ghost use Rattle.gl_renumbering.specs.Tales.{has_names, have_names, lists_by_mention, mentioned, names_by_mention, told, StayLawful};
+ghost use Rattle.gl_renumbering.specs.Tales.{has_names, have_names, lists_by_mention, mentioned, names_by_mention, told, IsThereToNumber, StayLawful};
 ghost use Rattle.gl_renumbering.specs.bodies.Tables.{AllStayToldBy, StandsFor, StayToldBy};
-ghost use Rattle.gl_renumbering.specs.declared.renumbering.RenumberingFault.TheVariants.{Unnamed};
+ghost use Rattle.gl_renumbering.specs.declared.renumbering.RenumberingFault.TheVariants.{Memory as OutOfMemory, Unnamed};
 
 use crate::numbers::Numbers;
 use crate::unnamed::have_names;
@@ -65,6 +65,8 @@ fn all_by_mention(alloc: Global, old: &Names, lists: &[Vec<Event>]) -> Result<By
     ensures lawful { IfOk result (λ told.
         StayLawful (map (λ list. list.items) lists.now)
         (map (λ list. list.items) told.lists.items)) }
+    ensures memory { OnErr result
+        (IsThereToNumber old.now (map (λ list. list.items) lists.now)) }
 {
     let mut numbers = Numbers::new(alloc, old)?;
     let mut by_mention = Vec::new(alloc);
@@ -86,7 +88,7 @@ fn all_by_mention(alloc: Global, old: &Names, lists: &[Vec<Event>]) -> Result<By
 /// Where a list is lawful, so is the one by mention.
 ///
 /// Err `Unnamed` where a lock or a location of an event has no name, whether or not there is memory. Err `Memory`
-/// where memory was refused.
+/// where memory was refused, and never where there is no name and no list.
 ///
 /// Takes memory for the lists and the names. Time grows with the events and the names; a name is looked up by
 /// hash at its first mention alone.
@@ -104,6 +106,8 @@ pub fn by_mention(
     ensures lawful { IfOk result (λ told.
         StayLawful (map (λ list. list.items) lists.now)
         (map (λ list. list.items) told.lists.items)) }
+    ensures memory { result ≡ Err OutOfMemory
+        → IsThereToNumber names.now (map (λ list. list.items) lists.now) }
 {
     if !have_names(names, lists) {
         return Err(RenumberingFault::Unnamed);

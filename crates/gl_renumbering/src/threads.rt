@@ -1,5 +1,5 @@
 //! The names of the threads, which keep their numbers.
-ghost use Rattle.std.specs.Prelude.{◌≡◌, ◌+◌, ◌^◌, ◌<◌, [], ◌∷◌, ◌++◌, None, length, position, IfOk, OnOk};
+ghost use Rattle.std.specs.Prelude.{◌≡◌, ◌≢◌, ◌+◌, ◌^◌, ◌<◌, [], ◌∷◌, ◌++◌, None, length, position, IfOk, OnErr, OnOk};
 ghost use Rattle.std.specs.Str.{bytes_eq};
 
 use gl_event::{Memory, ThreadId};
@@ -23,7 +23,8 @@ fn add_thread(alloc: Global, names: &mut Names, name: &[u8]) -> Result<(), Memor
 
 /// The names of the threads alone. One look-up by hash for each.
 pub(crate) fn names_of_threads(alloc: Global, names: &Names) -> Result<Names, Memory>
-    ensures { IfOk result (λ alone. alone ≡ record names.now { locks = []; locs = [] }) }
+    ensures names { IfOk result (λ alone. alone ≡ record names.now { locks = []; locs = [] }) }
+    ensures memory { OnErr result (names.now.threads ≢ []) }
 {
     let mut alone = Names::new(alloc, Seed::fixed());
     for number in 0..names.threads() {

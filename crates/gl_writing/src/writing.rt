@@ -1,5 +1,5 @@
 //! Writing a trace as a text.
-ghost use Rattle.std.specs.Prelude.{◌≡◌, ℕ, List, ◌++◌, Some, length, slice_get, All, IfOk, OnOk};
+ghost use Rattle.std.specs.Prelude.{◌≡◌, ◌≢◌, ℕ, List, [], ◌++◌, Some, length, slice_get, All, IfOk, OnOk, OnErr};
 ghost use Rattle.gl_event.specs.Events.{location};
 ghost use Rattle.gl_event.specs.declared.events.Event.{Event};
 ghost use Rattle.gl_std.specs.Trace.{IsNamed};
@@ -100,8 +100,9 @@ fn put_list(
     events: &[Event],
 ) -> Result<(), AllocError>
     requires { All (IsNamed names.now) events.now }
-    ensures { OnOk result
+    ensures written { OnOk result
         (text.new.items ≡ text.old.items ++ written_list names.now thread.now events.now) }
+    ensures memory { OnErr result (written_list names.now thread.now events.now ≢ []) }
 {
     for event in events {
         put_event(text, names, thread, event)?;
@@ -114,13 +115,17 @@ fn put_list(
 /// ends with CR. Where the trace is that of a text, what is written is read again under the same
 /// limits, and tells the same ([`written_texts_are_read_again`](crate::written_texts_are_read_again)).
 ///
+/// Err where memory was refused, and never where nothing is to be written.
+///
 /// Takes memory for the text alone. Time grows with its length.
 pub fn write_trace(alloc: Global, trace: &Trace) -> Result<Vec<u8>, AllocError>
     requires one_list_each { length trace.now.lists ≡ length trace.now.names.threads }
     requires named { (thread : ℕ) (es : List Event)
         → slice_get trace.now.lists thread ≡ Some es
         → All (IsNamed trace.now.names) es }
-    ensures { IfOk result (λ text. text.items ≡ written trace.now.names trace.now.lists) }
+    ensures written { IfOk result
+        (λ text. text.items ≡ written trace.now.names trace.now.lists) }
+    ensures memory { OnErr result (written trace.now.names trace.now.lists ≢ []) }
 {
     let lists = trace.lists.as_slice();
     let mut text = Vec::new(alloc);

@@ -15,4 +15,4 @@ returns-in_err-text-clause-memory c =
     rw (p.1, p.2) refl
 
 pub returns-clause-printed : goal.returns-clause-printed
-returns-clause-printed c = ap (λ t. Prints t Done) c.in_ok-text.ensures
+returns-clause-printed c = ap (λ t. Prints t Done) c.in_ok-text.ensures.written

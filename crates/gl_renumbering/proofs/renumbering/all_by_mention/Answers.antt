@@ -1,13 +1,14 @@
-use Rattle.std.proofs.Common.{◌≡◌, ◌+◌, [], ◌∷◌, ◌++◌, List, Vec, Global, take, map, sym, ap, subst, ◌∙◌, arith}
+use Rattle.std.proofs.Common.{◌≡◌, ◌+◌, [], ◌∷◌, ◌++◌, List, Vec, Global, take, map, sym, ap, subst, ◌∙◌, arith, inr}
 use Rattle.std.specs.List.{flat_map, list_all}
 use Rattle.std.proofs.lemmas.List.{take_all}
+use Rattle.std.proofs.lemmas.Result.{err_from_is_err_and}
 use Rattle.gl_event.specs.declared.events.Event.{Event}
 use Rattle.gl_std.specs.Names.{NameLists}
 use Rattle.gl_renumbering.specs.Tales.{StayLawful, has_names, lists_by_mention, mentioned, names_by_mention, tales, told}
 use Rattle.gl_renumbering.specs.bodies.Tables.{AllStayToldBy}
 use Rattle.gl_renumbering.proofs.Alike.{stay_lawful}
 use Rattle.gl_renumbering.proofs.Growing.{map_append}
-use Rattle.gl_renumbering.proofs.Telling.{all_stay_push, all_told, list_at, lists_push, one_passes, tales_more}
+use Rattle.gl_renumbering.proofs.Telling.{all_stay_push, all_told, list_at, lists_push, one_passes, some_lists, tales_more}
 use Rattle.gl_renumbering.proofs.renumbering.all_by_mention.Goals as goal
 
 abbrev items_of : Vec Event Global → List Event
@@ -68,3 +69,13 @@ returns-clause-lawful c =
     let is : names ≡ names_by_mention old (map items_of rows) = c.loop-list.invariant.1 ∙ ap (λ all. names_by_mention old (map items_of all)) whole in
     let lists : all ≡ lists_by_mention old (map items_of rows) = all_told old names (map items_of rows) all is (subst (λ rs. AllStayToldBy names (tales old (map items_of rs)) all) whole c.loop-list.invariant.2) in
     subst (StayLawful (map items_of rows)) (sym lists) (stay_lawful old (map items_of rows) c.in_ok-numbers.ensures.differ c.requires.named)
+
+pub returns-in_err-list-clause-memory : goal.returns-in_err-list-clause-memory
+returns-in_err-list-clause-memory c =
+    let p = err_from_is_err_and c.from_residual-in_err-list.result c.from_residual-in_err-list.ensures.1 in
+    rw p.1 (inr (some_lists items_of c.args.lists.now c.loop-list.list-index c.loop-list-test.true))
+
+pub returns-in_err-push-clause-memory : goal.returns-in_err-push-clause-memory
+returns-in_err-push-clause-memory c =
+    let p = err_from_is_err_and c.from_residual-in_err-push.result c.from_residual-in_err-push.ensures.1 in
+    rw p.1 (inr (some_lists items_of c.args.lists.now c.loop-list.list-index c.loop-list-test.true))
