@@ -7,7 +7,7 @@ ghost use Rattle.gl_shards.specs.Shards as shards_of;
 ghost use Rattle.gl_engine.specs.bodies.Breaking.{IsGoneAt, IsKeptFor, TellsTaken};
 ghost use Rattle.gl_engine.specs.bodies.Shipping.{HaveShipped, CanBegin, ReachShards, Ships};
 ghost use Rattle.gl_engine.specs.Settling.{HaveEndedBelow};
-ghost use Rattle.gl_engine.specs.bodies.Whole.{GoesOn, HasMoved, KeepsNotes, KeepsUp, PullsOn};
+ghost use Rattle.gl_engine.specs.bodies.Whole.{CanTakeTurns, GoesOn, HasMoved, HasTakenTurns, KeepsNotes, PullsOn};
 
 use crate::discarding::discard_all;
 use crate::gathered::RunFault;
@@ -138,13 +138,9 @@ fn turn<R: Wait>(
     outlets: &mut Vec<Outlet>,
 ) -> Result<bool, RunFault>
     requires known { thread < intake.old.limits.threads }
-    requires none { made.old.items ≡ [] }
-    requires shards { ReachShards outlets.old.items }
-    requires kept { KeepsUp intake.old.limits inputs.old.items intake.old.stream outlets.old.items }
-    ensures goes_on { GoesOn intake.old intake.new inputs.old.items inputs.new.items
+    requires begins { CanTakeTurns intake.old inputs.old.items made.old.items outlets.old.items }
+    ensures { HasTakenTurns intake.old intake.new inputs.old.items inputs.new.items made.new.items
         outlets.old.items outlets.new.items result }
-    ensures moved { IfOk result (HasMoved intake.old.stream intake.new.stream) }
-    ensures none { OnOk result (made.new.items ≡ []) }
 {
     let pulled = pull_some(alloc, thread, inputs, intake, made)?;
     ship(rt, outlets, made)?;
@@ -162,13 +158,9 @@ fn round<R: Wait>(
     outlets: &mut Vec<Outlet>,
 ) -> Result<bool, RunFault>
     requires all { threads ≡ intake.old.limits.threads }
-    requires none { made.old.items ≡ [] }
-    requires shards { ReachShards outlets.old.items }
-    requires kept { KeepsUp intake.old.limits inputs.old.items intake.old.stream outlets.old.items }
-    ensures goes_on { GoesOn intake.old intake.new inputs.old.items inputs.new.items
+    requires begins { CanTakeTurns intake.old inputs.old.items made.old.items outlets.old.items }
+    ensures { HasTakenTurns intake.old intake.new inputs.old.items inputs.new.items made.new.items
         outlets.old.items outlets.new.items result }
-    ensures moved { IfOk result (HasMoved intake.old.stream intake.new.stream) }
-    ensures none { OnOk result (made.new.items ≡ []) }
 {
     let mut moved = false;
     for number in 0..threads {

@@ -1,5 +1,5 @@
 -- What holds of what was gathered.
-use Rattle.std.specs.Prelude.{◌≡◌, ℕ, ◌<◌, Bool, true, false, List, ◌++◌, length, map, Option, Some, None, Result, slice_get, IfSome, IfErr, OnOk}
+use Rattle.std.specs.Prelude.{◌≡◌, ℕ, ◌<◌, Bool, true, false, List, [], ◌++◌, length, map, Option, Some, None, Result, slice_get, IfSome, IfOk, IfErr, OnOk}
 use mathlib.Core.List.{IsPrefix}
 use Rattle.gl_event.specs.Bounds.{Bounds}
 use Rattle.gl_event.specs.declared.notes.Note.{Note}
@@ -10,7 +10,7 @@ use Rattle.gl_lane.specs.Lanes.{LaneId}
 use Rattle.gl_shards.specs.Feeds.{AllSent, Sending}
 use Rattle.gl_world.specs.Keeping.{notes_of, AreMade}
 use Rattle.gl_engine.specs.bodies.Breaking.{IsBlamed, IsPullFault, StopsWith}
-use Rattle.gl_engine.specs.bodies.Shipping.{HaveShipped}
+use Rattle.gl_engine.specs.bodies.Shipping.{HaveShipped, ReachShards}
 use Rattle.gl_engine.specs.Collecting.{as_of, IsTurn}
 use Rattle.gl_engine.specs.Keeping.{AreNotesOf, IsCollector}
 use Rattle.gl_engine.specs.Recording.{Closed}
@@ -69,6 +69,22 @@ pub record GoesOn {A : Type 0} (before after : Collected) (inputs later : List L
   pub grown : IsPrefix before.stream after.stream
   pub blamed : IfErr result (IsBlamed before.limits later after.stream)
   pub stopped : IfErr result (StopsWith before.stream after.stream (map (λ o. o.sent) shipped))
+
+-- a run can take turns: no edge that was made waits to be shipped, there is an outlet for each shard, and the run has kept up
+pub record CanTakeTurns (before : Collected) (inputs : List LaneInput)
+    (made : List (Edge × Sample)) (outlets : List Sending) : Type 0 where
+  pub none : made ≡ []
+  pub shards : ReachShards outlets
+  pub kept : KeepsUp before.limits inputs before.stream outlets
+
+-- a run took turns, and answers whether a note was pulled: it went on from there, and unless something went wrong no edge waits to
+-- be shipped
+pub record HasTakenTurns (before after : Collected) (inputs later : List LaneInput)
+    (more : List (Edge × Sample)) (outlets shipped : List Sending) (result : Result Bool RunFault)
+    : Type 0 where
+  pub goes_on : GoesOn before after inputs later outlets shipped result
+  pub moved : IfOk result (HasMoved before.stream after.stream)
+  pub none : OnOk result (more ≡ [])
 
 -- all was collected: each thread's notes in order and as they were popped, up to its end mark
 pub record IsCollected (limits : Bounds) (inputs : List LaneInput)

@@ -4,11 +4,12 @@ use Rattle.gl_engine.proofs.Handing.{prefix_on, blamed_gone, stops_gone, stops_s
 use Rattle.gl_engine.proofs.Running.{shards_still}
 use Rattle.gl_engine.proofs.pull_and_ship.pull_until_ended.Goals as goal
 
-pub round-requires-clause-kept : goal.round-requires-clause-kept
-round-requires-clause-kept g c = rw (c.loop.invariant.limits) c.loop.invariant.keeps
-
-pub round-requires-clause-shards : goal.round-requires-clause-shards
-round-requires-clause-shards g c = shards_still c.args.outlets.now.items c.loop.outlets.items c.loop.invariant.feeds c.requires.begins.shards
+pub round-requires-clause-begins : goal.round-requires-clause-begins
+round-requires-clause-begins g c = record {
+  none = c.loop.invariant.none;
+  shards = shards_still c.args.outlets.now.items c.loop.outlets.items c.loop.invariant.feeds c.requires.begins.shards;
+  kept = rw (c.loop.invariant.limits) c.loop.invariant.keeps;
+}
 
 pub loop-preserved-then-branch : goal.loop-preserved-then-branch
 loop-preserved-then-branch g c = record {

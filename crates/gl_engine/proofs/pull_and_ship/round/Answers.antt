@@ -6,23 +6,28 @@ use Rattle.gl_engine.proofs.Running.{moved_first, moved_then, shards_still}
 use Rattle.gl_engine.proofs.pull_and_ship.round.Goals.{then-moved, else-moved}
 use Rattle.gl_engine.proofs.pull_and_ship.round.Goals as goal
 
-pub turn-requires-clause-kept : goal.turn-requires-clause-kept
-turn-requires-clause-kept g c = rw (c.loop-number.invariant.limits) c.loop-number.invariant.keeps
+pub turn-requires-clause-begins : goal.turn-requires-clause-begins
+turn-requires-clause-begins g c = record {
+  none = c.loop-number.invariant.none;
+  shards = shards_still c.args.outlets.now.items c.loop-number.outlets.items c.loop-number.invariant.feeds c.requires.begins.shards;
+  kept = rw (c.loop-number.invariant.limits) c.loop-number.invariant.keeps;
+}
 
-pub turn-requires-clause-shards : goal.turn-requires-clause-shards
-turn-requires-clause-shards g c = shards_still c.args.outlets.now.items c.loop-number.outlets.items c.loop-number.invariant.feeds c.requires.shards
-
-pub returns-in_err-pulled-clause-goes_on : goal.returns-in_err-pulled-clause-goes_on
-returns-in_err-pulled-clause-goes_on g c =
+pub returns-in_err-pulled : goal.returns-in_err-pulled
+returns-in_err-pulled g c =
     let p = err_from_is_err_and c.from_residual.result c.from_residual.ensures.1 in
     record {
-      keeps = rw p.1 tt;
-      limits = c.turn.ensures.goes_on.limits ∙ c.loop-number.invariant.limits;
-      lanes = c.turn.ensures.goes_on.lanes ∙ c.loop-number.invariant.lanes;
-      feeds = c.turn.ensures.goes_on.feeds ∙ c.loop-number.invariant.feeds;
-      grown = prefix_on _ _ _ c.loop-number.invariant.grown c.turn.ensures.goes_on.grown;
-      blamed = search rules;
-      stopped = rw (p.1, p.2) (stops_since _ _ _ _ c.loop-number.invariant.grown c.in_err-pulled.field-0.0 c.in_err-pulled.ensures.goes_on.stopped);
+      goes_on = record {
+        keeps = rw p.1 tt;
+        limits = c.turn.ensures.goes_on.limits ∙ c.loop-number.invariant.limits;
+        lanes = c.turn.ensures.goes_on.lanes ∙ c.loop-number.invariant.lanes;
+        feeds = c.turn.ensures.goes_on.feeds ∙ c.loop-number.invariant.feeds;
+        grown = prefix_on _ _ _ c.loop-number.invariant.grown c.turn.ensures.goes_on.grown;
+        blamed = search rules;
+        stopped = rw (p.1, p.2) (stops_since _ _ _ _ c.loop-number.invariant.grown c.in_err-pulled.field-0.0 c.in_err-pulled.ensures.goes_on.stopped);
+      };
+      moved = rw p.1 tt;
+      none = rw p.1 tt;
     }
 
 pub loop-number-preserved : goal.loop-number-preserved

@@ -4,51 +4,63 @@ use Rattle.gl_engine.specs.Dealing.{dealt}
 use Rattle.gl_engine.proofs.Handing.{added_all, blamed_gone, blamed_pull, pulled_prefix, stops_gone, stops_pull}
 use Rattle.gl_engine.proofs.pull_and_ship.turn.Goals as goal
 
-pub returns-in_err-pulled-clause-goes_on : goal.returns-in_err-pulled-clause-goes_on
-returns-in_err-pulled-clause-goes_on g c =
+pub returns-in_err-pulled : goal.returns-in_err-pulled
+returns-in_err-pulled g c =
     let p = err_from_is_err_and c.from_residual.result c.from_residual.ensures.1 in
     record {
-      keeps = rw p.1 tt;
-      limits = search rules;
-      lanes = search rules;
-      feeds = search rules;
-      grown = pulled_prefix 64 c.args.thread _ _ c.pull_some.ensures.pulls_on.grown;
-      blamed = rw (p.1, p.2)
-          (blamed_pull c.args.thread c.args.intake.now.limits c.pull_some.new.inputs.items c.pull_some.new.intake.stream c.in_err-pulled.field-0.0 c.in_err-pulled.ensures.pulls_on.blamed);
-      stopped = rw (p.1, p.2)
-          (stops_pull c.args.thread c.args.intake.now.limits c.pull_some.new.inputs.items c.args.intake.now.stream c.pull_some.new.intake.stream c.args.outlets.now.items c.in_err-pulled.field-0.0
-          c.in_err-pulled.ensures.pulls_on.blamed c.pull_some.ensures.pulls_on.grown c.requires.kept.shipped);
+      goes_on = record {
+        keeps = rw p.1 tt;
+        limits = search rules;
+        lanes = search rules;
+        feeds = search rules;
+        grown = pulled_prefix 64 c.args.thread _ _ c.pull_some.ensures.pulls_on.grown;
+        blamed = rw (p.1, p.2)
+            (blamed_pull c.args.thread c.args.intake.now.limits c.pull_some.new.inputs.items c.pull_some.new.intake.stream c.in_err-pulled.field-0.0 c.in_err-pulled.ensures.pulls_on.blamed);
+        stopped = rw (p.1, p.2)
+            (stops_pull c.args.thread c.args.intake.now.limits c.pull_some.new.inputs.items c.args.intake.now.stream c.pull_some.new.intake.stream c.args.outlets.now.items c.in_err-pulled.field-0.0
+            c.in_err-pulled.ensures.pulls_on.blamed c.pull_some.ensures.pulls_on.grown c.requires.begins.kept.shipped);
+      };
+      moved = rw p.1 tt;
+      none = rw p.1 tt;
     }
 
-pub returns-in_err-ship-clause-goes_on : goal.returns-in_err-ship-clause-goes_on
-returns-in_err-ship-clause-goes_on g c =
+pub returns-in_err-ship : goal.returns-in_err-ship
+returns-in_err-ship g c =
     let p = err_from_is_err_and c.from_residual-in_err-ship.result c.from_residual-in_err-ship.ensures.1 in
     record {
-      keeps = rw p.1 tt;
-      limits = search rules;
-      lanes = search rules;
-      feeds = search rules;
-      grown = pulled_prefix 64 c.args.thread _ _ c.pull_some.ensures.pulls_on.grown;
-      blamed = rw (p.1, p.2)
-          (blamed_gone c.args.intake.now.limits c.pull_some.new.inputs.items c.pull_some.new.intake.stream _ _ c.in_err-ship.field-0.0
-          (c.in_err-ship.ensures.stopped _ c.requires.kept.shipped));
-      stopped = rw (p.1, p.2)
-          (stops_gone c.args.intake.now.stream c.pull_some.new.intake.stream _ _ c.in_err-ship.field-0.0 (added_all _ _ _ _ c.requires.none c.pull_some.ensures.pulls_on.added)
-          (c.in_err-ship.ensures.stopped _ c.requires.kept.shipped));
+      goes_on = record {
+        keeps = rw p.1 tt;
+        limits = search rules;
+        lanes = search rules;
+        feeds = search rules;
+        grown = pulled_prefix 64 c.args.thread _ _ c.pull_some.ensures.pulls_on.grown;
+        blamed = rw (p.1, p.2)
+            (blamed_gone c.args.intake.now.limits c.pull_some.new.inputs.items c.pull_some.new.intake.stream _ _ c.in_err-ship.field-0.0
+            (c.in_err-ship.ensures.stopped _ c.requires.begins.kept.shipped));
+        stopped = rw (p.1, p.2)
+            (stops_gone c.args.intake.now.stream c.pull_some.new.intake.stream _ _ c.in_err-ship.field-0.0 (added_all _ _ _ _ c.requires.begins.none c.pull_some.ensures.pulls_on.added)
+            (c.in_err-ship.ensures.stopped _ c.requires.begins.kept.shipped));
+      };
+      moved = rw p.1 tt;
+      none = rw p.1 tt;
     }
 
-pub returns-clause-goes_on : goal.returns-clause-goes_on
-returns-clause-goes_on g c =
-    let all = added_all _ _ _ _ c.requires.none c.pull_some.ensures.pulls_on.added in
+pub returns : goal.returns
+returns g c =
+    let all = added_all _ _ _ _ c.requires.begins.none c.pull_some.ensures.pulls_on.added in
     record {
-      keeps = record {
-        collector = c.pull_some.ensures.pulls_on.keeps;
-        shipped = c.in_ok-ship.ensures.ships.shipped _ c.requires.kept.shipped ∙ ap (dealt (length c.ship.new.outlets.items)) all;
+      goes_on = record {
+        keeps = record {
+          collector = c.pull_some.ensures.pulls_on.keeps;
+          shipped = c.in_ok-ship.ensures.ships.shipped _ c.requires.begins.kept.shipped ∙ ap (dealt (length c.ship.new.outlets.items)) all;
+        };
+        limits = search rules;
+        lanes = search rules;
+        feeds = search rules;
+        grown = pulled_prefix 64 c.args.thread _ _ c.pull_some.ensures.pulls_on.grown;
+        blamed = tt;
+        stopped = tt;
       };
-      limits = search rules;
-      lanes = search rules;
-      feeds = search rules;
-      grown = pulled_prefix 64 c.args.thread _ _ c.pull_some.ensures.pulls_on.grown;
-      blamed = tt;
-      stopped = tt;
+      moved = search rules;
+      none = search rules;
     }
