@@ -46,7 +46,8 @@ impl Sought<'_> {
         requires stay { KeepsSought self.now stay.now }
         requires kept { KeepsSought self.now kept.old.items }
         ensures goes_on { GoesOnSeeking self.now kept.old.items kept.new.items }
-        ensures out { slice_get stay.now i ≡ Some false → slice_get kept.new.items i ≡ Some false }
+        ensures out { slice_get stay.now i ≡ Some false
+            → slice_get kept.new.items i ≡ Some false }
     {
         if !stay[i] {
             kept[i] = false;
