@@ -1,5 +1,6 @@
 pub mod Apart
 pub mod Level
+pub mod Lone
 pub mod Off
 pub mod Answered
 pub mod Back

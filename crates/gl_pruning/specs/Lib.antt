@@ -1,3 +1,4 @@
+pub mod Alone
 pub mod Kinds
 pub mod Loops
 pub mod OffCycles

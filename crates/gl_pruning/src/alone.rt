@@ -7,13 +7,16 @@
 //!
 //! Of the edges that have a lock no more is known than their one thread, or that there are several. So it
 //! takes as long for an edge that shares its locks with thousands as for one that shares them with few.
-ghost use Rattle.std.specs.Prelude.{◌<◌, length, IsTrue, IfOk, OnOk};
+ghost use Rattle.std.specs.Prelude.{◌≡◌, ◌<◌, List, Bool, Some, false, length, slice_get, IsTrue, IfOk, OnOk};
 ghost use Rattle.gl_segments.specs.Clocks.{is_before};
 ghost use Rattle.gl_filters.specs.Picked.{edges_of_table};
+ghost use Rattle.gl_pruning.specs.Alone.{IsAlone, LeavesOutAlone};
 ghost use Rattle.gl_pruning.specs.OffCycles.{IsOffCycles};
 ghost use Rattle.gl_pruning.specs.Sought.{KeepsSought, GoesOnSeeking};
 ghost use Rattle.gl_pruning.specs.bodies.Flags.{TellsIfAny};
-ghost use Rattle.gl_pruning.specs.bodies.Users.{KnowsCycles};
+ghost use Rattle.gl_pruning.specs.bodies.Users.{KnowsCycles, KnowUsers};
+ghost use Rattle.gl_index.specs.Users.{UseAsKnown};
+ghost use Rattle.gl_edges.specs.declared.edge.Edge.{Edge};
 ghost use Rattle.gl_index.specs.declared.sides.Side.TheVariants.{Follower, Leader};
 
 use crate::sought::Sought;
@@ -29,7 +32,10 @@ impl Sought<'_> {
     // The users of locks on this side of the edges that are kept.
     fn users(&self, alloc: Global, side: Side, kept: &[bool]) -> Result<Users, Memory>
         requires { KeepsSought self.now kept.now }
-        ensures { IfOk result (λ users. KnowsCycles self.now side users) }
+        ensures cycles { IfOk result (λ users. KnowsCycles self.now side users) }
+        ensures known { IfOk result
+            (λ users. UseAsKnown side (edges_of_table self.now.table.now) kept.now
+            (length (edges_of_table self.now.table.now)) users) }
     {
         let users = Users::of_kept(alloc, self.table, side, kept)?;
         Ok(users)
@@ -40,9 +46,12 @@ impl Sought<'_> {
     fn is_alone(&self, holders: &Users, wanters: &Users, edge: &Edge) -> bool
         requires holders { KnowsCycles self.now Leader holders.now }
         requires wanters { KnowsCycles self.now Follower wanters.now }
-        ensures { IsTrue result
+        ensures off { IsTrue result
             → IsOffCycles (is_before self.now.order.now) self.now.mode self.now.len
             (edges_of_table self.now.table.now) edge.now }
+        ensures alone { (kept : List Bool)
+            → KnowUsers (edges_of_table self.now.table.now) kept holders.now wanters.now
+            → IsAlone (edges_of_table self.now.table.now) kept edge.now → IsTrue result }
     {
         if holders.has_only(edge.wanted, edge.thread) {
             return true;
@@ -64,8 +73,16 @@ impl Sought<'_> {
         requires kept { KeepsSought self.now kept.old.items }
         ensures goes_on { GoesOnSeeking self.now kept.old.items kept.new.items }
         ensures any { TellsIfAny result kept.old.items kept.new.items }
+        ensures alone { (before : List Bool) (e : Edge)
+            → KnowUsers (edges_of_table self.now.table.now) before holders.now wanters.now
+            → slice_get (edges_of_table self.now.table.now) x ≡ Some e
+            → IsAlone (edges_of_table self.now.table.now) before e
+            → slice_get kept.new.items x ≡ Some false }
     {
-        if !kept[x] || !self.is_alone(holders, wanters, &self.table[x].0) {
+        if !kept[x] {
+            return false;
+        }
+        if !self.is_alone(holders, wanters, &self.table[x].0) {
             return false;
         }
         kept[x] = false;
@@ -77,6 +94,8 @@ impl Sought<'_> {
         requires { KeepsSought self.now kept.old.items }
         ensures goes_on { OnOk result (GoesOnSeeking self.now kept.old.items kept.new.items) }
         ensures any { IfOk result (λ any. TellsIfAny any kept.old.items kept.new.items) }
+        ensures alone { OnOk result
+            (LeavesOutAlone (edges_of_table self.now.table.now) kept.old.items kept.new.items) }
     {
         let holders = self.users(alloc, Side::Leader, kept)?;
         let wanters = self.users(alloc, Side::Follower, kept)?;
@@ -91,9 +110,11 @@ impl Sought<'_> {
     /// that is kept, each time.
     pub(crate) fn leave_out_alone(&self, alloc: Global, kept: &mut Vec<bool>) -> Result<(), Memory>
         requires { KeepsSought self.now kept.old.items }
-        ensures { OnOk result (GoesOnSeeking self.now kept.old.items kept.new.items) }
+        ensures goes_on { OnOk result (GoesOnSeeking self.now kept.old.items kept.new.items) }
+        ensures alone { OnOk result
+            (LeavesOutAlone (edges_of_table self.now.table.now) kept.old.items kept.new.items) }
     {
-        for _ in 0..PASSES {
+        for _pass in 0..PASSES {
             if !self.leave_out_each_alone(alloc, kept)? {
                 return Ok(());
             }

@@ -1,7 +1,8 @@
 //! Which edges stay where a search leaves out all that it can.
-ghost use Rattle.std.specs.Prelude.{IfOk};
+ghost use Rattle.std.specs.Prelude.{[], IfOk};
 ghost use Rattle.gl_segments.specs.Clocks.{is_before};
 ghost use Rattle.gl_filters.specs.Picked.{edges_of_table};
+ghost use Rattle.gl_pruning.specs.Alone.{LeavesOutAlone};
 ghost use Rattle.gl_pruning.specs.OffCycles.{KeepsCycles};
 
 use crate::parallel::kept_edges_parallel;
@@ -15,7 +16,9 @@ use std::thread::Threads;
 
 /// Which edges stay where a search leaves out all that it can: for each a flag. Each edge of a cycle of the
 /// mode and of at most as many edges as are asked for has its flag, whether that cycle would be listed or
-/// not. An edge in no such cycle has none, unless it takes too long to see that.
+/// not. An edge in no such cycle has none, unless it takes too long to see that. It never does where of the
+/// edges that hold the lock which it wants, or of those that want the lock which it holds, none has another
+/// thread.
 ///
 /// Err where memory was refused.
 pub fn edges_sought(
@@ -24,9 +27,11 @@ pub fn edges_sought(
     order: &Order,
     query: &Query,
 ) -> Result<Vec<bool>, Memory>
-    ensures { IfOk result
+    ensures kept { IfOk result
         (λ kept. KeepsCycles (is_before order.now) query.now.mode query.now.len
         (edges_of_table edges.now) kept.items) }
+    ensures alone { IfOk result
+        (λ kept. LeavesOutAlone (edges_of_table edges.now) [] kept.items) }
 {
     Sought::of(edges, order, query).kept_edges(alloc)
 }
@@ -42,9 +47,11 @@ pub fn edges_sought_parallel(
     order: &Order,
     query: &Query,
 ) -> Result<Vec<bool>, Memory>
-    ensures { IfOk result
+    ensures kept { IfOk result
         (λ kept. KeepsCycles (is_before order.now) query.now.mode query.now.len
         (edges_of_table edges.now) kept.items) }
+    ensures alone { IfOk result
+        (λ kept. LeavesOutAlone (edges_of_table edges.now) [] kept.items) }
 {
     kept_edges_parallel(rt, alloc, &Sought::of(edges, order, query))
 }

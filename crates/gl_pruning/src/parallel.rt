@@ -2,7 +2,9 @@
 //!
 //! The positions of a table are dealt out to parts. In each part a thread leaves out edges of its own,
 //! and knows nothing of the others. An edge stays that stays by each of them.
-ghost use Rattle.std.specs.Prelude.{◌≡◌, ◌<◌, Some, false, length, slice_get, All, IfOk, OnOk};
+ghost use Rattle.std.specs.Prelude.{◌≡◌, ◌<◌, [], Some, false, length, slice_get, All, IfOk, OnOk};
+ghost use Rattle.gl_filters.specs.Picked.{edges_of_table};
+ghost use Rattle.gl_pruning.specs.Alone.{LeavesOutAlone};
 ghost use Rattle.gl_pruning.specs.Sought.{KeepsSought, StayLeftOut, GoesOnSeeking};
 
 use crate::parts::Part;
@@ -179,7 +181,9 @@ pub(crate) fn kept_edges_parallel(
     alloc: Global,
     sought: &Sought<'_>,
 ) -> Result<Vec<bool>, Memory>
-    ensures { IfOk result (λ kept. KeepsSought sought.now kept.items) }
+    ensures kept { IfOk result (λ kept. KeepsSought sought.now kept.items) }
+    ensures alone { IfOk result
+        (λ kept. LeavesOutAlone (edges_of_table sought.now.table.now) [] kept.items) }
 {
     let mut kept = sought.kept_at_first(alloc)?;
     leave_out_in_turn_parallel(rt, alloc, sought, ALL_EFFORT, &mut kept)?;

@@ -5,6 +5,8 @@
 //! first: by kind, since there may be many edges of each kind; those that have no way back; by kind and
 //! thread; and single ones by their segments.
 ghost use Rattle.std.specs.Prelude.{◌≡◌, ◌∷◌, [], IfOk, OnOk, count_by};
+ghost use Rattle.gl_filters.specs.Picked.{edges_of_table};
+ghost use Rattle.gl_pruning.specs.Alone.{LeavesOutAlone};
 ghost use Rattle.gl_pruning.specs.Sought.{KeepsSought, GoesOnSeeking};
 ghost use Rattle.gl_pruning.specs.declared.grains.Grain.TheVariants.{ByKind, ByThread, BySegment};
 ghost use Rattle.gl_pruning.specs.declared.reasons.Reason.TheVariants.{Alike, NoWay};
@@ -46,7 +48,9 @@ impl Sought<'_> {
     ///
     /// Err where memory was refused.
     pub fn kept_at_first(&self, alloc: Global) -> Result<Vec<bool>, Memory>
-        ensures { IfOk result (λ kept. KeepsSought self.now kept.items) }
+        ensures kept { IfOk result (λ kept. KeepsSought self.now kept.items) }
+        ensures alone { IfOk result
+            (λ kept. LeavesOutAlone (edges_of_table self.now.table.now) [] kept.items) }
     {
         let mut kept = self.on_loops(alloc)?;
         self.leave_out_alone(alloc, &mut kept)?;
@@ -120,7 +124,9 @@ impl Sought<'_> {
 
     /// Which edges may be in a cycle, as far as all reasons tell: for each a flag.
     pub(crate) fn kept_edges(&self, alloc: Global) -> Result<Vec<bool>, Memory>
-        ensures { IfOk result (λ kept. KeepsSought self.now kept.items) }
+        ensures kept { IfOk result (λ kept. KeepsSought self.now kept.items) }
+        ensures alone { IfOk result
+            (λ kept. LeavesOutAlone (edges_of_table self.now.table.now) [] kept.items) }
     {
         let mut kept = self.kept_at_first(alloc)?;
         self.leave_out_in_turn(alloc, ALL_EFFORT, &mut kept)?;

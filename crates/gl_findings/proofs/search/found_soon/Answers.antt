@@ -9,5 +9,5 @@ found_within-requires c =
     let before = is_before c.args.order.now in
     let asked = c.args.query.now in
     let sought = c.of.ensures in
-    let keeps : KeepsCycles before asked.mode asked.len (edges_of_table c.args.edges.now) c.in_ok-kept.kept.items = rw (sought.table, sought.order, sought.mode, sought.len) at c.in_ok-kept.ensures in
+    let keeps : KeepsCycles before asked.mode asked.len (edges_of_table c.args.edges.now) c.in_ok-kept.kept.items = rw (sought.table, sought.order, sought.mode, sought.len) at c.in_ok-kept.ensures.kept in
     c.in_ok-grounds.ensures before asked.mode asked.len keeps
