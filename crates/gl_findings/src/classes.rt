@@ -1,5 +1,5 @@
 //! Classes of edges: those made at the same pair of places are one.
-ghost use Rattle.std.specs.Prelude.{◌≡◌, ◌+◌, ◌<◌, ℕ, cond, List, Some, true, length, take, slice_get, IfOk, OnOk};
+ghost use Rattle.std.specs.Prelude.{◌≡◌, ◌≢◌, ◌+◌, ◌<◌, ℕ, cond, List, [], Some, true, length, take, slice_get, IfOk, OnErr, OnOk};
 ghost use Rattle.std.specs.HashMap.{get};
 ghost use Rattle.gl_edges.specs.declared.edge.Edge.{Edge};
 ghost use Rattle.gl_edges.specs.declared.edge.Sample.{Sample};
@@ -15,12 +15,14 @@ use std::collections::HashMap;
 /// The class of each edge: the position of the first edge that was made at the same pair of places. Two look-ups
 /// for each.
 ///
-/// Err where memory was refused.
+/// Err where memory was refused, and never where there is no edge.
 pub fn classes_of(alloc: Global, table: &[(Edge, Sample)]) -> Result<Vec<usize>, Memory>
-    ensures { IfOk result (λ classes. classes.items ≡ classes_of table.now) }
+    ensures classes { IfOk result (λ classes. classes.items ≡ classes_of table.now) }
+    ensures memory { OnErr result (table.now ≢ []) }
 {
     let mut first = HashMap::new(alloc);
-    let mut classes = Vec::with_capacity(alloc, table.len())?;
+    let mut classes = Vec::new(alloc);
+    classes.reserve(table.len())?;
     for i in 0..table.len() {
         let sample = &table[i].1;
         let class = class_at(&mut first, (sample.held_loc, sample.wanted_loc), i)?;

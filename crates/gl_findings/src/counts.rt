@@ -1,5 +1,5 @@
 //! Of each class of edges how many threads made them, and on how many locks.
-ghost use Rattle.std.specs.Prelude.{◌≡◌, ◌+◌, ◌^◌, ◌<◌, ℕ, List, [], ◌∷◌, ◌++◌, Some, length, map, slice_get, IfOk, OnOk};
+ghost use Rattle.std.specs.Prelude.{◌≡◌, ◌≢◌, ◌+◌, ◌^◌, ◌<◌, ℕ, List, [], ◌∷◌, ◌++◌, Some, length, map, slice_get, IfOk, OnErr, OnOk};
 ghost use Rattle.std.specs.HashSet.{contains};
 ghost use Rattle.gl_edges.specs.declared.edge.Edge.{Edge};
 ghost use Rattle.gl_edges.specs.declared.edge.Sample.{Sample};
@@ -25,10 +25,14 @@ pub struct ClassCounts {
 
 /// What is counted of the class of each edge. Three look-ups for an edge beside those of its class.
 ///
-/// Err where memory was refused.
+/// Err where memory was refused, and never where there is no edge.
 pub fn class_counts(alloc: Global, table: &[(Edge, Sample)]) -> Result<Vec<ClassCounts>, Memory>
-    ensures { IfOk result (λ counts. counts.items ≡ map (counts_of table.now) table.now) }
+    ensures counts { IfOk result (λ counts. counts.items ≡ map (counts_of table.now) table.now) }
+    ensures memory { OnErr result (table.now ≢ []) }
 {
+    if table.is_empty() {
+        return Ok(Vec::new(alloc));
+    }
     let classes = classes_of(alloc, table)?;
     let threads = threads_by_class(alloc, table, &classes)?;
     let locks = locks_by_class(alloc, table, &classes)?;

@@ -1,24 +1,19 @@
-use Rattle.std.proofs.Common.{◌≡◌, [], ◌∷◌, ◌++◌, get_or, refl, sym, ap, ◌∙◌}
+use Rattle.std.proofs.Common.{◌≡◌, [], ◌∷◌, ◌++◌, get_or, length, refl, sym, ap, ◌∙◌, arith}
 use Rattle.std.proofs.lemmas.Option.{slice_get-get_or}
 use Rattle.gl_findings.specs.Findings.{class_of}
 use Rattle.gl_findings.proofs.FirstPlaces.{classes_more}
 use Rattle.std.proofs.lemmas.Result.{err_from_is_err_and}
 use Rattle.gl_findings.proofs.classes.classes_of.Goals as goal
 
-pub returns-in_err-classes : goal.returns-in_err-classes
-returns-in_err-classes c =
-    let p = err_from_is_err_and c.from_residual.result c.from_residual.ensures.1 in
-    rw p.1 tt
-
 pub returns-in_err-class : goal.returns-in_err-class
 returns-in_err-class c =
     let p = err_from_is_err_and c.from_residual-in_err-class.result c.from_residual-in_err-class.ensures.1 in
-    rw p.1 tt
+    rw p.1 (record { classes = tt; memory = λ none. omega (arith, c.loop-i-test.true, ap length none) })
 
 pub returns-in_err-push : goal.returns-in_err-push
 returns-in_err-push c =
     let p = err_from_is_err_and c.from_residual-in_err-push.result c.from_residual-in_err-push.ensures.1 in
-    rw p.1 tt
+    rw p.1 (record { classes = tt; memory = λ none. omega (arith, c.loop-i-test.true, ap length none) })
 
 pub loop-i-preserved : goal.loop-i-preserved
 loop-i-preserved c =
