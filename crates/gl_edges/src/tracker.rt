@@ -1,5 +1,6 @@
 //! A thread that is followed event by event.
-ghost use Rattle.std.specs.Prelude.{◌≡◌, ◌≢◌, [], ◌∷◌, ◌++◌, map, take, length, Contains, Any, IsOk, IfOk, OnOk, OnErr};
+ghost use Rattle.std.specs.Prelude.{◌≡◌, ◌≢◌, ◌≤◌, ◌+◌, [], ◌∷◌, ◌++◌, map, take, length, Contains, Any, IsOk, IfOk, OnOk, OnErr};
+ghost use Rattle.std.specs.Vec.{vec_len, vec_capacity};
 ghost use Rattle.gl_event.specs.Events as events;
 ghost use Rattle.gl_edges.specs.Edges.{edges_at, edges_after, pair_at};
 ghost use Rattle.gl_edges.specs.Guards.{guards_of};
@@ -164,6 +165,29 @@ fn push_edges(
     let mut guards = Guards::empty(alloc);
     guards.refill(entries)?;
     made.reserve(entries.len())?;
+    push_each(alloc, thread, state, guards, wanted, mode, loc, made)
+}
+
+// Puts the edges from each of the held locks, which are the guards, to the wanted one behind those made, ascending:
+// for each of them there is room. Where there is no memory for a copy of the guards some of them may be there.
+fn push_each(
+    alloc: Global,
+    thread: ThreadId,
+    state: &ThreadState,
+    guards: Guards,
+    wanted: LockId,
+    mode: LockMode,
+    loc: LocId,
+    made: &mut Vec<(Edge, Sample)>,
+) -> Result<(), Memory>
+    requires guarded { guards ≡ guards_of state.now.held }
+    requires reserved { vec_len made.old + length guards ≤ vec_capacity made.old }
+    ensures pushed { ForEachStanding state.now
+        (λ es. OnOk result (made.new.items
+        ≡ made.old.items ++ map (pair_at thread es wanted mode loc) (events.held es))) }
+    ensures kept { take (length made.old.items) made.new.items ≡ made.old.items }
+    ensures in_place { length guards ≤ 2 → IsOk result }
+{
     let Some((last, others)) = guards.as_slice().split_last() else {
         return Ok(());
     };

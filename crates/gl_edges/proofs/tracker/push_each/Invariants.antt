@@ -3,7 +3,7 @@ use Rattle.std.specs.Vec.{vec_len, vec_capacity}
 use Rattle.gl_event.specs.States.{StandsAfter}
 use Rattle.gl_event.specs.declared.events.Event.{Event}
 use Rattle.gl_edges.specs.Edges.{pair_at}
-use Rattle.gl_edges.proofs.tracker.push_edges.Given as goal
+use Rattle.gl_edges.proofs.tracker.push_each.Given as goal
 
 abbrev pub invariant-loop-guard : goal.invariant-loop-guard
 invariant-loop-guard l =
