@@ -23,7 +23,8 @@ use Rattle.gl_intake.specs.declared.notes.Refused.{Refused}
 use Rattle.gl_engine.specs.bodies.Breaking.{first_of, HasStopped, IsBlamed, IsBroken, IsKeptFor, IsPullFault, TellsTaken}
 use Rattle.gl_engine.specs.Dealing.{dealt, edges_of_next, made_by}
 use Rattle.gl_engine.specs.Keeping.{BreaksForCause, IsCollector, pulling_of}
-use Rattle.gl_engine.specs.bodies.Shipping.{HaveShipped, ReachShards}
+use Rattle.gl_engine.specs.Gathering.{ReachShards}
+use Rattle.gl_engine.specs.bodies.Shipping.{HaveShipped}
 use Rattle.gl_engine.specs.bodies.Whole.{lane_of, AddsEdges, HasMoved, KeepsUp, IsWhole, IsGathered}
 use Rattle.std.proofs.lemmas.Simd.{map-map}
 use Rattle.gl_engine.specs.declared.gathered.RunFault.{RunFault}

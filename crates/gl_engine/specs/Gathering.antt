@@ -1,5 +1,5 @@
 -- What a collector leaves behind that has run.
-use Rattle.std.specs.Prelude.{◌≡◌, ◌⊎◌, ℕ, ◌<◌, Bool, true, not, List, [], ◌∷◌, ◌++◌, length, map, Option, None, Some}
+use Rattle.std.specs.Prelude.{◌≡◌, ◌⊎◌, ℕ, ◌<◌, ◌≤◌, Bool, true, not, List, [], ◌∷◌, ◌++◌, length, map, Option, None, Some, slice_get}
 use Rattle.std.specs.List.{filter, position_from}
 use mathlib.Core.List.{IsPrefix}
 use Rattle.gl_event.specs.Bounds.{Bounds}
@@ -11,12 +11,27 @@ use Rattle.gl_intake.specs.declared.notes.Refused.{Refused}
 use Rattle.gl_lane.specs.Lanes.{LaneId}
 use Rattle.gl_shards.specs.Feeds.{AllSent, FeedId, Sending}
 use Rattle.gl_shards.specs.Shards.{shard_of}
+use Rattle.gl_shards.specs.declared.shard.TheConstants.{MAX_SHARDS}
 use Rattle.gl_engine.specs.Collecting.{Collecting, lanes_of, IsTurn}
 use Rattle.gl_engine.specs.Dealing.{dealt, made_by}
 use Rattle.gl_engine.specs.Receipts.{AreOfRecorders}
 use Rattle.gl_engine.specs.Recording.{Closed}
 use Rattle.gl_engine.specs.declared.gathered.RunFault.{RunFault}
 use Rattle.gl_engine.specs.declared.gathered.RunFault.TheVariants as kept
+
+-- ---- what a run begins with
+
+-- there is an outlet for each shard, 1 to 16 of them
+pub record ReachShards (outlets : List Sending) : Type 0 where
+  pub some : 1 ≤ length outlets
+  pub fit : length outlets ≤ MAX_SHARDS
+
+-- nothing was sent through these outlets, of which there is one for each shard
+pub record AreUnused (outlets : List Sending) : Type 0 where
+  pub shards : ReachShards outlets
+  pub unsent : (shard : ℕ) (o : Sending) → slice_get outlets shard ≡ Some o → o.sent ≡ []
+
+-- ---- what a run leaves
 
 -- a collector that has run: its session and limits, the threads' lanes in the order of thread numbers, the notes collected, the feeds whose
 -- edges were all sent, in the order of shards, and what went wrong, if something did

@@ -10,7 +10,7 @@ use Rattle.gl_intake.specs.declared.notes.Refused.{Refused}
 use Rattle.gl_lane.specs.Lanes.{Popping}
 use Rattle.gl_recorder.specs.Taking.{Taking, Tracks}
 use Rattle.gl_world.specs.Keeping.{notes_of, AreMade}
-use Rattle.gl_engine.specs.Collecting.{Pulling, as_of}
+use Rattle.gl_engine.specs.Collecting.{Pulling, Side, as_of}
 use Rattle.gl_engine.specs.Dealing.{made_by}
 use Rattle.gl_engine.specs.declared.lane_input.LaneInput.{LaneInput}
 
@@ -37,6 +37,10 @@ pub record IsReceipt (limits : Bounds) (thread : ℕ) (pushed : List Note) (take
 abbrev pub pulling_of : LaneInput → Pulling
 pulling_of input =
     record { lane = input.lane.lane; popped = input.lane.popped; broken = input.broken }
+
+-- the side of a thread with this input, beside these notes collected and edges made
+abbrev pub side_at : LaneInput → List Note → List (Edge × Sample) → Side
+side_at input stream made = record { input = pulling_of input; stream = stream; made = made }
 
 -- the lane's front note, read as one of the thread, may not come next, for this reason
 pub record IsStuck (limits : Bounds) (thread : ℕ) (stream : List Note) (lane : Popping)

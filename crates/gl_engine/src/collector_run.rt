@@ -1,13 +1,11 @@
 //! The run of a collector: it collects all, ships all edges, and ends the feeds.
-ghost use Rattle.std.specs.Prelude.{◌≡◌, ◌<◌, ◌≤◌, ◌+◌, [], ◌∷◌, ◌++◌, ℕ, None, Some, List, map, length, slice_get, IsOk};
+ghost use Rattle.std.specs.Prelude.{◌≡◌, ◌<◌, ◌≤◌, ◌+◌, [], ◌∷◌, ◌++◌, None, Some, List, map, length, IsOk};
 ghost use Rattle.std.specs.Vec.{vec_len, vec_capacity};
 ghost use Rattle.gl_edges.specs.declared.edge.Edge.{Edge};
 ghost use Rattle.gl_edges.specs.declared.edge.Sample.{Sample};
-ghost use Rattle.gl_shards.specs.Feeds.{FeedId, Sending};
-ghost use Rattle.gl_shards.specs.declared.shard.TheConstants.{MAX_SHARDS};
+ghost use Rattle.gl_shards.specs.Feeds.{FeedId};
 ghost use Rattle.gl_engine.specs.bodies.Breaking.{first_of};
-ghost use Rattle.gl_engine.specs.bodies.Shipping.{ReachShards};
-ghost use Rattle.gl_engine.specs.Gathering.{AreEnded, HasNotBegun, HasRunThrough, IsLeftBy};
+ghost use Rattle.gl_engine.specs.Gathering.{AreEnded, AreUnused, HasNotBegun, HasRunThrough, IsLeftBy};
 ghost use Rattle.gl_engine.specs.declared.gathered.RunFault.TheVariants as kept;
 
 use crate::collector::Collector;
@@ -116,10 +114,7 @@ impl Collector {
     /// [`Sent`]s is made before the first pull, and so are the edges of the pulls before: they are found once
     /// more in the notes, which takes as long as those pulls did.
     pub fn run<R: Wait>(self, rt: &R, outlets: Vec<Outlet>) -> Gathered
-        requires some { 1 ≤ length outlets.items }
-        requires fit { length outlets.items ≤ MAX_SHARDS }
-        requires unsent { (shard : ℕ) (o : Sending) → slice_get outlets.items shard ≡ Some o
-            → o.sent ≡ [] }
+        requires unused { AreUnused outlets.items }
         ensures { HasRunThrough self outlets.items result }
     {
         let Ok(sent) = Vec::with_capacity(self.alloc, outlets.len()) else {
@@ -139,9 +134,7 @@ impl Collector {
         sent: Vec<Sent>,
         made: Vec<(Edge, Sample)>,
     ) -> Gathered
-        requires shards { ReachShards outlets.items }
-        requires unsent { (shard : ℕ) (o : Sending) → slice_get outlets.items shard ≡ Some o
-            → o.sent ≡ [] }
+        requires unused { AreUnused outlets.items }
         requires empty { sent.items ≡ [] }
         requires room { vec_len sent + length outlets.items ≤ vec_capacity sent }
         requires made { made.items ≡ self.made }

@@ -10,7 +10,7 @@ ghost use Rattle.gl_world.specs.Keeping.{with_body};
 ghost use Rattle.gl_world.specs.Machine.{edges_due};
 ghost use Rattle.gl_engine.specs.Collecting.{as_of, pulled_of, IsSidePull};
 ghost use Rattle.gl_engine.specs.Dealing.{edges_of_next, made_by};
-ghost use Rattle.gl_engine.specs.Keeping.{pulling_of, BreaksForCause};
+ghost use Rattle.gl_engine.specs.Keeping.{side_at, BreaksForCause};
 ghost use Rattle.gl_engine.specs.bodies.Fronts.{IsFront};
 
 use crate::pulled::{PullFault, Pulled};
@@ -137,16 +137,8 @@ impl LaneInput {
     /// where they are asked for.
     pub fn pull(&mut self, thread: ThreadId, intake: &mut Intake) -> Result<Pulled, PullFault>
         ensures pull { IsSidePull intake.old.limits thread
-            (record {
-              input = pulling_of self.old;
-              stream = intake.old.stream;
-              made = made_by intake.old.stream;
-            }) result
-            (record {
-              input = pulling_of self.new;
-              stream = intake.new.stream;
-              made = made_by intake.new.stream;
-            }) }
+            (side_at self.old intake.old.stream (made_by intake.old.stream)) result
+            (side_at self.new intake.new.stream (made_by intake.new.stream)) }
         ensures limits { intake.new.limits ≡ intake.old.limits }
         ensures cause { BreaksForCause intake.old.limits thread intake.old.stream self.old
             → BreaksForCause intake.old.limits thread intake.new.stream self.new }
@@ -172,16 +164,8 @@ impl LaneInput {
     ) -> Result<Pulled, PullFault>
         requires known { thread < intake.old.limits.threads }
         ensures pull { IsSidePull intake.old.limits thread
-            (record {
-              input = pulling_of self.old;
-              stream = intake.old.stream;
-              made = made.old.items;
-            }) result
-            (record {
-              input = pulling_of self.new;
-              stream = intake.new.stream;
-              made = made.new.items;
-            }) }
+            (side_at self.old intake.old.stream made.old.items) result
+            (side_at self.new intake.new.stream made.new.items) }
         ensures limits { intake.new.limits ≡ intake.old.limits }
         ensures cause { BreaksForCause intake.old.limits thread intake.old.stream self.old
             → BreaksForCause intake.old.limits thread intake.new.stream self.new }
@@ -212,9 +196,8 @@ impl LaneInput {
             → (made later : List (Edge × Sample))
             → OnOk offered (later ≡ made ++ edges_of_next before note.now)
             → OnErr offered (later ≡ made)
-            → IsSidePull limits note.now.thread
-            (record { input = pulling_of self.old; stream = before; made = made }) result
-            (record { input = pulling_of self.new; stream = after; made = later }) }
+            → IsSidePull limits note.now.thread (side_at self.old before made) result
+            (side_at self.new after later) }
         ensures cause { (limits : Bounds) (before after : List Note)
             → HasOffered limits before after note.now offered
             → BreaksForCause limits note.now.thread after self.new }

@@ -5,7 +5,8 @@ ghost use Rattle.gl_edges.specs.declared.edge.Edge.{Edge};
 ghost use Rattle.gl_edges.specs.declared.edge.Sample.{Sample};
 ghost use Rattle.gl_shards.specs.Shards as shards_of;
 ghost use Rattle.gl_engine.specs.bodies.Breaking.{IsGoneAt, IsKeptFor, TellsTaken};
-ghost use Rattle.gl_engine.specs.bodies.Shipping.{HaveShipped, CanBegin, ReachShards, Ships};
+ghost use Rattle.gl_engine.specs.Gathering.{ReachShards};
+ghost use Rattle.gl_engine.specs.bodies.Shipping.{HaveShipped, CanBegin, Ships};
 ghost use Rattle.gl_engine.specs.Settling.{HaveEndedBelow};
 ghost use Rattle.gl_engine.specs.bodies.Whole.{CanTakeTurns, GoesOn, HasMoved, HasTakenTurns, KeepsNotes, PullsOn};
 

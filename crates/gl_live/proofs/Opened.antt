@@ -17,6 +17,7 @@ use Rattle.gl_live.specs.bodies.Ready.{IsReady}
 use Rattle.gl_live.specs.bodies.Rosters.{Roster, roster_of, IsRecorderOf}
 use Rattle.gl_live.specs.bodies.Streams.{AreRecorded}
 use Rattle.gl_live.specs.declared.session.Session.{Session}
+use Rattle.gl_live.proofs.Leaving.{unsent_at}
 use Rattle.gl_live.proofs.Rostered.{events_none}
 use Rattle.gl_intake.specs.Stream.{events_of}
 
@@ -38,9 +39,10 @@ ready threads shards some fit x known events count feeds unsent no_receipt empty
     record {
       threads_are = known;
       events_are = events;
-      some = omega (arith, some, count);
-      fit = subst (λ n. n ≤ MAX_SHARDS) (sym count) fit;
-      unsent = unsent;
+      outlets = record {
+        shards = record { some = omega (arith, some, count); fit = subst (λ n. n ≤ MAX_SHARDS) (sym count) fit };
+        unsent = unsent_at x.outlets.items unsent;
+      };
       feeds = feeds;
       no_receipt = no_receipt;
       room = omega (arith, room, empty);

@@ -3,11 +3,11 @@ ghost use Rattle.std.specs.Prelude.{◌≡◌, ◌<◌, ◌≤◌, ◌+◌, ℕ,
 ghost use Rattle.std.specs.List.{All};
 ghost use Rattle.std.specs.Vec.{vec_len, vec_capacity};
 ghost use Rattle.gl_event.specs.declared.events.Event.{Event as EventOf};
-ghost use Rattle.gl_shards.specs.declared.shard.TheConstants.{MAX_SHARDS};
 ghost use Rattle.gl_std.specs.Listed.{listed};
 ghost use Rattle.gl_std.specs.Names.{NameLists};
 ghost use Rattle.gl_std.specs.Streaming.{with_item, CanBeAsked, IsDone};
 ghost use Rattle.gl_std.specs.declared.trace.Trace.{Trace};
+ghost use Rattle.gl_engine.specs.Gathering.{AreUnused};
 ghost use Rattle.gl_live.specs.bodies.Ready.{HasSizes};
 ghost use Rattle.gl_live.specs.bodies.Rosters.{Roster, IsReceiptOf};
 ghost use Rattle.gl_live.specs.bodies.Streams.{AreRecorded, CanBeTaken, HasGathered, HasRecordedText, HasTaken, IsAtStart, IsOfThreads, IsRecording, KeepUp, MayTake, StopsAfter};
@@ -163,9 +163,7 @@ fn start_collector<'s, E, R: Threads + Wait + Sync>(
     collector: Collector,
     outlets: Vec<Outlet>,
 ) -> Option<CollectorThread>
-    requires some { 1 ≤ length outlets.items }
-    requires fit { length outlets.items ≤ MAX_SHARDS }
-    requires unsent { All (λ o. o.sent ≡ []) outlets.items }
+    requires unused { AreUnused outlets.items }
     ensures collector { IfSome result (λ h. h.promise.collector.value ≡ collector) }
     ensures outlets { IfSome result (λ h. h.promise.outlets.value.items ≡ outlets.items) }
 {
@@ -176,9 +174,7 @@ fn start_collector<'s, E, R: Threads + Wait + Sync>(
     let gathering = scope.spawn_with(
         promise,
         move || -> Gathered
-            requires some { 1 ≤ length outlets.items }
-            requires fit { length outlets.items ≤ MAX_SHARDS }
-            requires unsent { All (λ o. o.sent ≡ []) outlets.items }
+            requires unused { AreUnused outlets.items }
             ensures { HasGathered collector outlets.items result }
         { run_collector(rt, collector, outlets) },
     );
@@ -187,9 +183,7 @@ fn start_collector<'s, E, R: Threads + Wait + Sync>(
 
 // Runs the collector.
 fn run_collector<R: Wait>(rt: &R, collector: Collector, outlets: Vec<Outlet>) -> Gathered
-    requires some { 1 ≤ length outlets.items }
-    requires fit { length outlets.items ≤ MAX_SHARDS }
-    requires unsent { All (λ o. o.sent ≡ []) outlets.items }
+    requires unused { AreUnused outlets.items }
     ensures { HasGathered collector outlets.items result }
 {
     collector.run(rt, outlets)
@@ -206,9 +200,7 @@ fn start_collecting<'s, E, R: Threads + Wait + Sync, G: Gate + Sync>(
     inlets: Vec<Inlet>,
     workers: &mut Vec<Working>,
 ) -> Option<CollectorThread>
-    requires some { 1 ≤ length outlets.items }
-    requires fit { length outlets.items ≤ MAX_SHARDS }
-    requires unsent { All (λ o. o.sent ≡ []) outlets.items }
+    requires unused { AreUnused outlets.items }
     requires feeds { map (λ i. i.feed) inlets.items ≡ map (λ o. o.feed) outlets.items }
     requires empty { workers.old.items ≡ [] }
     requires room { vec_len workers.old + length inlets.items ≤ vec_capacity workers.old }

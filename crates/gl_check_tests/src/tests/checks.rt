@@ -8,6 +8,7 @@ use gl_check::{CheckFault, Checked, check};
 use gl_filters::Verdict;
 use gl_findings::Listing;
 use gl_std::Trace;
+use gl_worked::texts::put;
 use std::alloc::Global;
 use std::process::Abort;
 
@@ -62,49 +63,35 @@ struct Case {
     answer: Answer,
 }
 
-// Puts these parts at the end of the text. Whether there was memory for them; so it is with the next one.
-fn put(text: &mut Vec<u8>, parts: &[&[u8]]) -> bool {
-    for part in parts {
-        if text.extend_from_slice(*part).is_err() {
-            return false;
-        }
-    }
-    true
-}
-
-// Puts the edges at the end of the text, with commas between them.
-fn put_edges(text: &mut Vec<u8>, edges: &[&[u8]]) -> bool {
+// Puts the edges at the end of the text, with commas between them. None where there was no memory; so it is with the next one.
+fn put_edges(text: &mut Vec<u8>, edges: &[&[u8]]) -> Option<()> {
     for (at, edge) in edges.iter().enumerate() {
         let comma: &[u8] = if at > 0 { b"," } else { b"" };
-        if !put(text, &[comma, *edge]) {
-            return false;
-        }
+        put(text, &[comma, *edge])?;
     }
-    true
+    Some(())
 }
 
-fn put_json(text: &mut Vec<u8>, json: Json) -> bool {
+fn put_json(text: &mut Vec<u8>, json: Json) -> Option<()> {
     match json {
         Json::Told(told) => put(text, &[told]),
         Json::Table(cycles, edges, len, trim) => {
             let max = b",\"max\":1000,\"mode\":\"full\",\"more\":false,\"trim\":";
-            put(text, &[b"{\"cycles\":", cycles, b",\"edges\":["])
-                && put_edges(text, edges)
-                && put(text, &[b"],\"format\":2,\"len\":", len, max, trim, b"}"])
+            put(text, &[b"{\"cycles\":", cycles, b",\"edges\":["])?;
+            put_edges(text, edges)?;
+            put(text, &[b"],\"format\":2,\"len\":", len, max, trim, b"}"])
         }
         Json::Findings(second, listed, last) => {
-            put(text, &[b"{\"edges\":["])
-                && put_edges(text, &edges_with(second))
-                && put(text, &[b"],", listed, last, b"}"])
+            put(text, &[b"{\"edges\":["])?;
+            put_edges(text, &edges_with(second))?;
+            put(text, &[b"],", listed, last, b"}"])
         }
     }
 }
 
 fn made(alloc: Global, json: Json) -> Option<Vec<u8>> {
     let mut text = Vec::new(alloc);
-    if !put_json(&mut text, json) {
-        return None;
-    }
+    put_json(&mut text, json)?;
     Some(text)
 }
 

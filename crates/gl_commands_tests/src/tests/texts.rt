@@ -1,4 +1,5 @@
 //! The texts that commands are run over: told, or made.
+use gl_worked::texts::put;
 use itoa::Buffer;
 use std::alloc::Global;
 
@@ -29,14 +30,6 @@ pub(super) fn made(alloc: Global, text: Text) -> Option<Vec<u8>> {
         Text::ThousandTurns => thousand_turns(alloc),
         Text::Ring => ring(alloc),
     }
-}
-
-// Puts these parts at the end of the text.
-pub(super) fn put(text: &mut Vec<u8>, parts: &[&[u8]]) -> Option<()> {
-    for part in parts {
-        text.extend_from_slice(*part).ok()?;
-    }
-    Some(())
 }
 
 fn long_line(alloc: Global, length: usize, ends: &[u8]) -> Option<Vec<u8>> {

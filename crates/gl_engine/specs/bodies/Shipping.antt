@@ -1,18 +1,13 @@
 -- What is shipped through outlets, and what a run begins with.
-use Rattle.std.specs.Prelude.{◌≡◌, ◌≤◌, ℕ, List, [], ◌++◌, length, map, Result, OnOk}
+use Rattle.std.specs.Prelude.{◌≡◌, ℕ, List, [], ◌++◌, length, map, Result, OnOk}
 use Rattle.gl_edges.specs.declared.edge.Edge.{Edge}
 use Rattle.gl_edges.specs.declared.edge.Sample.{Sample}
 use Rattle.gl_intake.specs.Stream.{Collected}
 use Rattle.gl_shards.specs.Feeds.{Sending}
-use Rattle.gl_shards.specs.declared.shard.TheConstants.{MAX_SHARDS}
 use Rattle.gl_engine.specs.Dealing.{dealt}
+use Rattle.gl_engine.specs.Gathering.{ReachShards}
 use Rattle.gl_engine.specs.Keeping.{IsCollector}
 use Rattle.gl_engine.specs.declared.lane_input.LaneInput.{LaneInput}
-
--- there is an outlet for each shard, 1 to 16 of them
-pub record ReachShards (outlets : List Sending) : Type 0 where
-  pub some : 1 ≤ length outlets
-  pub fit : length outlets ≤ MAX_SHARDS
 
 -- through each outlet those of these edges were sent that are its shard's, and no others
 abbrev pub HaveShipped : List Sending → List (Edge × Sample) → Type 0

@@ -10,7 +10,8 @@ use Rattle.gl_lane.specs.Lanes.{LaneId}
 use Rattle.gl_shards.specs.Feeds.{AllSent, Sending}
 use Rattle.gl_world.specs.Keeping.{notes_of, AreMade}
 use Rattle.gl_engine.specs.bodies.Breaking.{IsBlamed, IsPullFault, StopsWith}
-use Rattle.gl_engine.specs.bodies.Shipping.{HaveShipped, ReachShards}
+use Rattle.gl_engine.specs.Gathering.{ReachShards}
+use Rattle.gl_engine.specs.bodies.Shipping.{HaveShipped}
 use Rattle.gl_engine.specs.Collecting.{as_of, IsTurn}
 use Rattle.gl_engine.specs.Keeping.{AreNotesOf, IsCollector}
 use Rattle.gl_engine.specs.Recording.{Closed}

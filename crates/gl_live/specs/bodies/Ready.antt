@@ -4,7 +4,7 @@ use Rattle.std.specs.List.{All}
 use Rattle.std.specs.Vec.{vec_len, vec_capacity}
 use Rattle.gl_event.specs.Bounds.{of_session}
 use Rattle.gl_event.specs.declared.limits.TheConstants.{MAX_EVENTS}
-use Rattle.gl_shards.specs.declared.shard.TheConstants.{MAX_SHARDS}
+use Rattle.gl_engine.specs.Gathering.{AreUnused}
 use Rattle.gl_live.specs.declared.session.Session.{Session}
 
 -- there are so many threads, each with as many events as there may be; a feed for each shard, 1 to 16, through which nothing was sent; and
@@ -12,9 +12,7 @@ use Rattle.gl_live.specs.declared.session.Session.{Session}
 pub record IsReady (threads : ℕ) (s : Session) : Type 0 where
   pub threads_are : s.collector.limits.threads ≡ threads
   pub events_are : s.collector.limits.events ≡ MAX_EVENTS
-  pub some : 1 ≤ length s.outlets.items
-  pub fit : length s.outlets.items ≤ MAX_SHARDS
-  pub unsent : All (λ o. o.sent ≡ []) s.outlets.items
+  pub outlets : AreUnused s.outlets.items
   pub feeds : map (λ i. i.feed) s.inlets.items ≡ map (λ o. o.feed) s.outlets.items
   pub no_receipt : s.receipts.items ≡ []
   pub room : vec_len s.receipts + threads ≤ vec_capacity s.receipts

@@ -2,6 +2,7 @@
 use gl_cycles::{Found, Trimmed};
 use gl_filters::{Mode, Query};
 use gl_findings::ClassCounts;
+use gl_worked::cycles::are_cycles;
 use gl_worked::known::Known;
 use std::alloc::Global;
 use std::thread::Threads;
@@ -49,22 +50,9 @@ pub(super) fn answers<R: Threads + Sync>(rt: &R, alloc: Global, known: &Known, a
     }
 }
 
-// Whether these cycles are listed.
-pub(super) fn are_listed(cycles: &[Vec<usize>], wanted: &[&[usize]]) -> bool {
-    if cycles.len() != wanted.len() {
-        return false;
-    }
-    for (cycle, want) in cycles.iter().zip(wanted) {
-        if cycle.as_slice() != *want {
-            return false;
-        }
-    }
-    true
-}
-
 // Whether these cycles were found, and whether there are more.
 pub(super) fn shows(found: &Found, wanted: &[&[usize]], more: bool) -> bool {
-    found.more == more && are_listed(found.cycles.as_slice(), wanted)
+    found.more == more && are_cycles(found.cycles.as_slice(), wanted)
 }
 
 // The query for a mode, a length and a number of cycles.
@@ -107,7 +95,7 @@ fn begins_with(found: &Found, count: usize, first: &[&[usize]], more: bool) -> b
     let cycles = found.cycles.as_slice();
     cycles.len() == count
         && first.len() <= count
-        && are_listed(&cycles[..first.len()], first)
+        && are_cycles(&cycles[..first.len()], first)
         && found.more == more
 }
 

@@ -1,17 +1,18 @@
 //! Searches at size.
-use super::asks::{are_listed, search, search_parallel};
+use super::asks::{search, search_parallel};
 use super::known_from;
 use super::lists::Lists::Crossed;
 use gl_cycles::Found;
 use gl_filters::Mode;
+use gl_worked::cycles::are_cycles;
 
 // Whether a hundred thousand cycles were found, the first and the last of them these, and there are more.
 fn is_hundred_thousand(found: &Found) -> bool {
     let cycles = found.cycles.as_slice();
     found.more
         && cycles.len() == 100_000
-        && are_listed(&cycles[..1], &[&[0, 317]])
-        && are_listed(&cycles[99_999..], &[&[316, 460]])
+        && are_cycles(&cycles[..1], &[&[0, 317]])
+        && are_cycles(&cycles[99_999..], &[&[316, 460]])
 }
 
 // As many cycles are listed as may be asked for, and there are more.

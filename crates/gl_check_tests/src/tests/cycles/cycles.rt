@@ -1,9 +1,10 @@
 //! The cycles of a few threads.
-use super::asks::{Ask, are_listed};
+use super::asks::Ask;
 use super::lists::Lists::Told;
 use super::{Case, expect_all};
 use gl_cycles::Cycles;
 use gl_filters::Mode;
+use gl_worked::cycles::are_cycles;
 use gl_worked::ops::Op::{Acq, Fork, Join, Rel};
 use std::alloc::Global;
 
@@ -164,6 +165,6 @@ fn cycles_as_lists(rt: HostRuntime) {
     let wanted: [&[usize]; 2] = [&[0, 2], &[1, 3]];
     let lists = two_lists(rt.alloc()).expect(&rt, "memory");
     let cycles = Cycles::from_vec(lists);
-    assert!(rt; are_listed(cycles.as_slice(), &wanted));
-    assert!(rt; are_listed(&cycles.into_vec(), &wanted));
+    assert!(rt; are_cycles(cycles.as_slice(), &wanted));
+    assert!(rt; are_cycles(&cycles.into_vec(), &wanted));
 }

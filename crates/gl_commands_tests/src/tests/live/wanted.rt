@@ -1,6 +1,7 @@
 //! What a report is asked with, and what is wanted of it.
 use gl_cycles::{Report, TrimOrder};
 use gl_filters::{Mode, Query};
+use gl_worked::cycles::are_cycles;
 
 // The query for so many cycles or findings at most, of at most 16 edges each.
 pub(super) fn query_for(max: u32) -> Option<Query> {
@@ -35,21 +36,9 @@ pub(super) const TWO_EDGES: Wanted = Wanted {
     trim: None,
 };
 
-fn are_these(cycles: &[Vec<usize>], wanted: &[&[usize]]) -> bool {
-    if cycles.len() != wanted.len() {
-        return false;
-    }
-    for (cycle, want) in cycles.iter().zip(wanted) {
-        if cycle.as_slice() != *want {
-            return false;
-        }
-    }
-    true
-}
-
 fn are_listed(cycles: &[Vec<usize>], wanted: Listed) -> bool {
     match wanted {
-        Listed::These(these) => are_these(cycles, these),
+        Listed::These(these) => are_cycles(cycles, these),
         Listed::Count(count) => cycles.len() == count,
     }
 }

@@ -4,6 +4,7 @@ use gl_cycles::{Report, ReportFault};
 use gl_edges::{Edge, Sample};
 use gl_event::{Event, ThreadId};
 use gl_filters::{Mode, Query};
+use gl_worked::cycles::are_cycles;
 use gl_worked::notes::{Told, are_notes};
 use gl_worked::ops::{Op, are_events};
 use gl_worked::rings::is_ring;
@@ -142,18 +143,6 @@ fn is_no_report(world: &Watched, wanted: &[(u32, u32)]) -> bool {
         Some(Err(ReportFault::Inconsistent { at, ring })) => is_ring(&at, &ring, wanted),
         _ => false,
     }
-}
-
-fn are_cycles(cycles: &[Vec<usize>], wanted: &[&[usize]]) -> bool {
-    if cycles.len() != wanted.len() {
-        return false;
-    }
-    for (cycle, want) in cycles.iter().zip(wanted) {
-        if cycle.as_slice() != *want {
-            return false;
-        }
-    }
-    true
 }
 
 fn are_edges(pairs: &[(Edge, Sample)], wanted: &[Want]) -> bool {

@@ -2,14 +2,11 @@ use Rattle.std.proofs.Common.{refl, sym, ap, ◌≤◌, length, subst, ◌∙◌
 use Rattle.gl_event.specs.Lawful.{lists_of}
 use Rattle.gl_shards.specs.declared.shard.TheConstants.{MAX_SHARDS}
 use Rattle.gl_event.specs.Bounds.{Bounds}
-use Rattle.gl_live.proofs.Leaving.{unsent_at, as_long, roster_same}
+use Rattle.gl_live.proofs.Leaving.{as_long, roster_same}
 use Rattle.gl_live.proofs.run.run_with_handles.Goals as goal
 
-pub run-gathered-requires-clause-unsent : goal.run-gathered-requires-clause-unsent
-run-gathered-requires-clause-unsent g c = unsent_at c.args.session.outlets.items c.requires.ready.unsent
-
 pub start_threads-requires-clause-fit : goal.start_threads-requires-clause-fit
-start_threads-requires-clause-fit g c κs within = subst (λ n. n ≤ MAX_SHARDS) (sym (as_long _ _ c.args.session.inlets.items c.args.session.outlets.items c.requires.ready.feeds)) c.requires.ready.fit
+start_threads-requires-clause-fit g c κs within = subst (λ n. n ≤ MAX_SHARDS) (sym (as_long _ _ c.args.session.inlets.items c.args.session.outlets.items c.requires.ready.feeds)) c.requires.ready.outlets.shards.fit
 
 pub join_threads-requires-clause-room : goal.join_threads-requires-clause-room
 join_threads-requires-clause-room g c =

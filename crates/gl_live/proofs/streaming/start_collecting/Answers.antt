@@ -4,4 +4,4 @@ use Rattle.gl_live.proofs.Leaving.{as_long}
 use Rattle.gl_live.proofs.streaming.start_collecting.Goals as goal
 
 pub start_workers-requires-clause-fit : goal.start_workers-requires-clause-fit
-start_workers-requires-clause-fit g c κs within = subst (λ n. n ≤ MAX_SHARDS) (sym (as_long _ _ c.args.inlets.items c.args.outlets.items c.requires.feeds)) c.requires.fit
+start_workers-requires-clause-fit g c κs within = subst (λ n. n ≤ MAX_SHARDS) (sym (as_long _ _ c.args.inlets.items c.args.outlets.items c.requires.feeds)) c.requires.unused.shards.fit

@@ -13,8 +13,8 @@ collect_all-gathered-requires g c = record {
   begins = record {
     all = search rules;
     collector = search rules;
-    shards = c.requires.shards;
-    unsent = unsent_dealt c.args.outlets.items c.requires.unsent;
+    shards = c.requires.unused.shards;
+    unsent = unsent_dealt c.args.outlets.items c.requires.unused.unsent;
   };
 }
 
@@ -22,7 +22,7 @@ pub invariant_of-result : goal.invariant_of-result
 invariant_of-result g c =
     rw c.collect_all-gathered.ensures.goes_on.limits
     (gathered_all c.self.inside.limits c.self.inside.intake.limits c.self.invariant.same_limits c.self.inside.inputs.items c.collect_all-gathered.new.inputs.items c.self.invariant.inputs_are.count c.collect_all-gathered.ensures.goes_on.lanes
-    c.collect_all-gathered.new.intake.stream c.args.outlets.items c.collect_all-gathered.new.outlets.items c.end_all-gone.new.sent.items c.requires.shards.some c.collect_all-gathered.ensures.goes_on.feeds
+    c.collect_all-gathered.new.intake.stream c.args.outlets.items c.collect_all-gathered.new.outlets.items c.end_all-gone.new.sent.items c.requires.unused.shards.some c.collect_all-gathered.ensures.goes_on.feeds
     c.collect_all-gathered.result c.end_all-gone.result c.collect_all-gathered.ensures.goes_on.keeps c.collect_all-gathered.ensures.ended c.end_all-gone.ensures.sent c.collect_all-gathered.ensures.goes_on.blamed c.first_fault.result c.first_fault.ensures.first c.first_fault.ensures.none)
 
 pub returns : goal.returns
