@@ -8,9 +8,9 @@ abbrev pub IsOneOf : ℕ → List ℕ → Type 0
 IsOneOf answer codes = list_any (λ code. code == answer) codes ≡ true
 
 -- what stands against a call is answered, if something does; and else that it was done, or that memory was refused
-abbrev pub IsAnswer : Option ℕ → ℕ → Type 0
-IsAnswer (Some code) answer = answer ≡ code
-IsAnswer None answer = IsOneOf answer (OK ∷ MEMORY ∷ [])
+abbrev pub IsCodeFor : Option ℕ → ℕ → Type 0
+IsCodeFor (Some code) answer = answer ≡ code
+IsCodeFor None answer = IsOneOf answer (OK ∷ MEMORY ∷ [])
 
 -- a handle that is of something stays one, and what it is of changes so; and one of nothing stays one, and is answered so
 abbrev pub IsCall : {X : Type 0} → (X → X → Type 0) → Type 0 → Option X → Option X → Type 0

@@ -2,7 +2,7 @@
 use Rattle.std.specs.Prelude.{◌≡◌, ℕ, ◌==◌, ◌&&◌, Bool, true, false, not, List, [], ◌∷◌, ◌++◌, Option, Some, None, if◌then◌else◌}
 use Rattle.gl_engine.specs.Receipts.{has_receipt}
 use Rattle.gl_engine.specs.Recording.{Closed}
-use Rattle.gl_c.specs.Calls.{IsAnswer}
+use Rattle.gl_c.specs.Calls.{IsCodeFor}
 use Rattle.gl_c.specs.declared.codes.TheConstants.{OK, MISUSE, STRANGE}
 use Rattle.gl_c.specs.declared.lane_state.LaneState.{LaneState}
 use Rattle.gl_c.specs.declared.lane_state.LaneState.TheVariants as lane
@@ -57,6 +57,6 @@ IsTakenLane old None new = ⊥
 -- the lane is taken back, and its handle is of nothing; or nothing changes
 pub record IsHandIn (old : SessionState) (was : Option LaneState) (answer : ℕ) (new : SessionState)
     (now : Option LaneState) : Type 0 where
-  pub answers : IsAnswer (hand_in_refusal old was) answer
+  pub answers : IsCodeFor (hand_in_refusal old was) answer
   pub done : answer ≡ OK → (now ≡ None) × IsTakenLane old was new
   pub same : (answer ≡ OK → ⊥) → HasReceipts old old.receipts.items new × (now ≡ was)

@@ -1,7 +1,7 @@
 -- What giving out a lane does.
 use Rattle.std.specs.Prelude.{◌≡◌, ℕ, ◌==◌, List, [], ◌∷◌, ◌++◌, Option, Some, None, length, if◌then◌else◌}
 use Rattle.gl_engine.specs.Recording.{Recording}
-use Rattle.gl_c.specs.Calls.{IsAnswer}
+use Rattle.gl_c.specs.Calls.{IsCodeFor}
 use Rattle.gl_c.specs.declared.codes.TheConstants.{OK, MISUSE, NO_LANE}
 use Rattle.gl_c.specs.declared.lane_state.LaneState.{LaneState}
 use Rattle.gl_c.specs.declared.lane_state.LaneState.TheVariants as lane
@@ -37,7 +37,7 @@ lane_open_refusal old None = if length old.recorders.items == 0 then Some NO_LAN
 -- a lane is given out to a handle that was of nothing; or nothing changes
 pub record IsLaneOpen (old : SessionState) (was : Option LaneState) (thread answer told : ℕ)
     (new : SessionState) (now : Option LaneState) : Type 0 where
-  pub answers : IsAnswer (lane_open_refusal old was) answer
+  pub answers : IsCodeFor (lane_open_refusal old was) answer
   pub done : answer ≡ OK → (was ≡ None) × IsGivenLane old now told new
   pub same : (answer ≡ OK → ⊥) → HasRecorders old old.recorders.items new × (now ≡ was)
       × (told ≡ thread)

@@ -5,7 +5,7 @@ use Rattle.gl_event.specs.declared.events.Event.{Event}
 use Rattle.gl_event.specs.declared.events.Refusal.{Refusal}
 use Rattle.gl_engine.specs.Recording.{Recording, recorded, next_note, with_pushed, seen_full, closed_of}
 use Rattle.gl_c.specs.Calls.{IsOneOf}
-use Rattle.gl_c.specs.Numbered.{event_of, refusal_code}
+use Rattle.gl_c.specs.Numbered.{event_of_kind, refusal_code}
 use Rattle.gl_c.specs.declared.codes.TheConstants.{OK, FULL, MISUSE, RANGE, UNCONFIRMED}
 use Rattle.gl_c.specs.declared.lane_state.LaneState.{LaneState}
 use Rattle.gl_c.specs.declared.lane_state.LaneState.TheVariants.{Recording as Runs, Closed as HasClosed, Lost}
@@ -34,7 +34,7 @@ IsRecordOfKind old (Some event) was answer told new = IsRecordOn old event answe
 -- an event is recorded on a lane that is recorded on, and on no other
 abbrev pub IsRecordOfState : LaneState → ℕ → ℕ → ℕ → ℕ → ℕ → ℕ → LaneState → Type 0
 IsRecordOfState (Runs old) kind operand place was answer told (Runs new) =
-    IsRecordOfKind old (event_of kind operand place) was answer told new
+    IsRecordOfKind old (event_of_kind kind operand place) was answer told new
 IsRecordOfState (Runs old) kind operand place was answer told (HasClosed new) = ⊥
 IsRecordOfState (Runs old) kind operand place was answer told Lost = ⊥
 IsRecordOfState (HasClosed old) kind operand place was answer told new =

@@ -4,7 +4,7 @@ use Rattle.gl_event.specs.declared.events.Event.{Event}
 use Rattle.gl_std.specs.Names.{NameLists}
 use Rattle.gl_renumbering.specs.Tales.{have_names, lists_by_mention, names_by_mention, TellTheSame}
 use Rattle.gl_filters.specs.Asked.{Asked}
-use Rattle.gl_c.specs.Reporting.{settled_lists, IsMaking, IsReportOf}
+use Rattle.gl_c.specs.Reporting.{settled_lists, IsMaking, HoldsReportOf}
 use Rattle.gl_c.specs.declared.codes.TheConstants.{MISUSE, RANGE, UNNAMED}
 use Rattle.gl_c.specs.declared.made_state.MadeState.{MadeState}
 use Rattle.gl_c.specs.declared.session_state.SessionState.{SessionState}
@@ -16,7 +16,7 @@ names_for state made = unwrap_or made.names state.names
 -- the handle is of the Goodlock report of the lists by mention, with the names by mention
 abbrev pub IsByMention : Asked → NameLists → List (List Event) → Option MadeState → Type 0
 IsByMention asked names lists now =
-    IsReportOf asked (lists_by_mention names lists) (Some (names_by_mention names lists)) now
+    HoldsReportOf asked (lists_by_mention names lists) (Some (names_by_mention names lists)) now
 
 -- such a report is made where all locks and places of the lists have names
 abbrev pub IsMakingByMention : Bool → Asked → NameLists → List (List Event) → Option MadeState → ℕ

@@ -8,8 +8,8 @@ use Rattle.gl_event.specs.declared.events.Refusal.TheVariants.{PlaceFull, NoSuch
 use Rattle.gl_c.specs.declared.codes.TheConstants.{ACQUIRE, ACQUIRE_SHARED, RELEASE, RELEASE_SHARED, TRY_ACQUIRE, TRY_ACQUIRE_SHARED, FORK, JOIN, EVENTS_FULL, NO_SUCH_THREAD, ON_ITSELF, NOT_HELD, HELD_FULL, DEPTH_FULL, UPGRADE}
 
 -- the event of this kind, on this lock or thread, at this place
-abbrev pub event_of : ℕ → ℕ → ℕ → Option Event
-event_of kind operand place =
+abbrev pub event_of_kind : ℕ → ℕ → ℕ → Option Event
+event_of_kind kind operand place =
     if kind == ACQUIRE then Some (Acquire Exclusive operand place)
     else (if kind == ACQUIRE_SHARED then Some (Acquire Shared operand place)
     else (if kind == RELEASE then Some (Release Exclusive operand place)

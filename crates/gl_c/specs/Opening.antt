@@ -5,7 +5,7 @@ use Rattle.std.specs.Option.{option_map}
 use Rattle.gl_event.specs.Bounds.{Bounds, first_out_of_range}
 use Rattle.gl_engine.specs.Collecting.{Collecting, IsOpened}
 use Rattle.gl_engine.specs.Recording.{Recording}
-use Rattle.gl_c.specs.Calls.{IsAnswer}
+use Rattle.gl_c.specs.Calls.{IsCodeFor}
 use Rattle.gl_c.specs.declared.codes.TheConstants.{OK, MISUSE, RANGE}
 use Rattle.gl_c.specs.declared.session_state.SessionState.{SessionState}
 use Rattle.gl_c.specs.declared.session_state.Stage.{Stage}
@@ -56,6 +56,6 @@ open_refusal limits None = option_map (λ bad. RANGE) (first_out_of_range limits
 -- a session is opened into a handle that was of nothing; or the handle is as it was
 pub record IsOpening (number : ℕ) (limits : Bounds) (was : Option SessionState) (answer : ℕ)
     (now : Option SessionState) : Type 0 where
-  pub answers : IsAnswer (open_refusal limits was) answer
+  pub answers : IsCodeFor (open_refusal limits was) answer
   pub done : answer ≡ OK → (was ≡ None) × IsNewOf number limits now
   pub same : (answer ≡ OK → ⊥) → now ≡ was

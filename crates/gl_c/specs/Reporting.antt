@@ -67,10 +67,10 @@ IsKept was (Ok report) names answer now = IsKeeping was report names answer now
 IsKept was (Err fault) names answer now = (answer ≡ report_code fault) × (now ≡ was)
 
 -- the handle is of the Goodlock report of these lists, with these names of its own or with none
-abbrev pub IsReportOf : Asked → List (List Event) → Option NameLists → Option MadeState → Type 0
-IsReportOf asked lists names (Some made) =
+abbrev pub HoldsReportOf : Asked → List (List Event) → Option NameLists → Option MadeState → Type 0
+HoldsReportOf asked lists names (Some made) =
     IsGoodlockReport asked lists made.report × (made.names ≡ names)
-IsReportOf asked lists names None = ⊥
+HoldsReportOf asked lists names None = ⊥
 
 -- the lists have no report, for this reason
 pub record HaveNoReport (lists : List (List Event)) (answer : ℕ) : Type 0 where
@@ -81,7 +81,7 @@ pub record HaveNoReport (lists : List (List Event)) (answer : ℕ) : Type 0 wher
 -- the Goodlock report of the lists is made into the handle; or the handle is as it was, and it is said why
 pub record IsMaking (asked : Asked) (lists : List (List Event)) (names : Option NameLists)
     (was : Option MadeState) (answer : ℕ) (now : Option MadeState) : Type 0 where
-  pub done : answer ≡ OK → IsReportOf asked lists names now
+  pub done : answer ≡ OK → HoldsReportOf asked lists names now
   pub same : (answer ≡ OK → ⊥) → now ≡ was
   pub fault : (answer ≡ OK → ⊥) → HaveNoReport lists answer
 

@@ -13,11 +13,11 @@ use Rattle.gl_c.specs.declared.session_state.Stage.{Stage}
 use Rattle.gl_c.specs.declared.session_state.Stage.TheVariants.{Running as Runs, Settled as HasSettled, Gone}
 
 -- each receipt of a running session's number is of one of its lanes
-abbrev pub AreOurs : Stage → List Closed → Type 0
-AreOurs (Runs r) receipts =
+abbrev pub AreOfItsLanes : Stage → List Closed → Type 0
+AreOfItsLanes (Runs r) receipts =
     AreOfRecorders r.collector.session r.collector.limits (lanes_of r.collector) receipts
-AreOurs (HasSettled lists) receipts = Unit {0}
-AreOurs Gone receipts = Unit {0}
+AreOfItsLanes (HasSettled lists) receipts = Unit {0}
+AreOfItsLanes Gone receipts = Unit {0}
 
 -- the thread whose lane or end mark is missing, if that stands against settling
 abbrev pub missing_thread : UnsettledFault → Option ℕ

@@ -1,6 +1,6 @@
 //! Handing in lanes that were closed.
 ghost use Rattle.std.specs.Prelude.{◌≡◌, Some, Ok, None, IfErr, OnOk, OnErr};
-ghost use Rattle.gl_c.specs.Calls.{IsAnswer, IsCall};
+ghost use Rattle.gl_c.specs.Calls.{IsCodeFor, IsCall};
 ghost use Rattle.gl_c.specs.HandingIn.{is_wanted, runs, state_refusal, HasReceipts, IsHandIn, IsTaken};
 ghost use Rattle.gl_c.specs.declared.codes.TheConstants.{OK, MISUSE};
 ghost use Rattle.gl_c.specs.declared.lane_state.LaneState.TheVariants.{Closed};
@@ -37,7 +37,7 @@ fn take_receipt(session: &mut SessionState, receipt: Receipt) -> Result<(), (Rec
     ensures back { IfErr result (λ back. (back.0 ≡ receipt) × (back.1 ≡ OK → ⊥)) }
     ensures same { OnErr result (HasReceipts session.old session.old.receipts.items session.new) }
     ensures why { IfErr result
-        (λ back. IsAnswer (state_refusal session.old (Closed receipt)) back.1) }
+        (λ back. IsCodeFor (state_refusal session.old (Closed receipt)) back.1) }
 {
     if !is_wanted(session, &receipt) {
         return Err((receipt, STRANGE));
@@ -54,7 +54,7 @@ fn take_state(session: &mut SessionState, state: LaneState) -> Result<(), (LaneS
     ensures free { OnOk result (state_refusal session.old state ≡ None) }
     ensures back { IfErr result (λ back. (back.0 ≡ state) × (back.1 ≡ OK → ⊥)) }
     ensures same { OnErr result (HasReceipts session.old session.old.receipts.items session.new) }
-    ensures why { IfErr result (λ back. IsAnswer (state_refusal session.old state) back.1) }
+    ensures why { IfErr result (λ back. IsCodeFor (state_refusal session.old state) back.1) }
 {
     match state {
         LaneState::Closed(receipt) => match take_receipt(session, receipt) {

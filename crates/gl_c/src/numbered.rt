@@ -1,6 +1,6 @@
 //! Events and their refusals by the numbers that C has for them.
 ghost use Rattle.std.specs.Prelude.{◌≡◌, ◌≤◌};
-ghost use Rattle.gl_c.specs.Numbered.{event_of, refusal_code};
+ghost use Rattle.gl_c.specs.Numbered.{event_of_kind, refusal_code};
 
 use crate::codes::{
     ACQUIRE, ACQUIRE_SHARED, DEPTH_FULL, EVENTS_FULL, FORK, HELD_FULL, JOIN, NO_SUCH_THREAD,
@@ -10,7 +10,7 @@ use gl_event::{Event, LocId, LockId, LockMode, Refusal, ThreadId};
 
 /// The event of this kind, on this lock or thread, at this place.
 pub fn event_of(kind: u32, operand: u32, place: u32) -> Option<Event>
-    ensures { result ≡ event_of kind operand place }
+    ensures { result ≡ event_of_kind kind operand place }
 {
     let (lock, thread, loc) = (
         LockId::new(operand),

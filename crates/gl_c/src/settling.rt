@@ -3,7 +3,7 @@ ghost use Rattle.std.specs.Prelude.{◌≡◌, length, IfSome};
 ghost use Rattle.gl_engine.specs.Collecting.{lanes_of};
 ghost use Rattle.gl_engine.specs.Receipts.{AreOfRecorders};
 ghost use Rattle.gl_c.specs.Calls.{IsCall};
-ghost use Rattle.gl_c.specs.Settling.{collector_of, missing_thread, AreOurs, IsSettle, IsSettled, IsSettling, IsToldMissing};
+ghost use Rattle.gl_c.specs.Settling.{collector_of, missing_thread, AreOfItsLanes, IsSettle, IsSettled, IsSettling, IsToldMissing};
 ghost use Rattle.gl_c.specs.declared.codes.TheConstants.{MISUSE};
 
 use crate::codes::{MISSING, MISUSE, OK, STRANGE};
@@ -81,7 +81,7 @@ fn settle_running(running: Running, receipts: &mut [Receipt], thread: &mut u32) 
 
 // Settles what runs.
 fn settle_stage(stage: Stage, receipts: &mut [Receipt], thread: &mut u32) -> (Stage, u32)
-    requires ours { AreOurs stage receipts.old }
+    requires ours { AreOfItsLanes stage receipts.old }
     ensures receipts { receipts.new ≡ receipts.old }
     ensures settled { IsSettled stage receipts.old thread.old result.1 thread.new result.0 }
 {
@@ -93,7 +93,7 @@ fn settle_stage(stage: Stage, receipts: &mut [Receipt], thread: &mut u32) -> (St
 
 // Settles the session.
 fn settle(session: &mut SessionState, thread: &mut u32) -> u32
-    requires ours { AreOurs session.old.stage session.old.receipts.items }
+    requires ours { AreOfItsLanes session.old.stage session.old.receipts.items }
     ensures settled { IsSettle session.old thread.old result thread.new session.new }
 {
     let stage = mem::replace(&mut session.stage, Stage::Gone);
@@ -108,7 +108,8 @@ fn settle(session: &mut SessionState, thread: &mut u32) -> u32
 /// handed in is one that this session gave out.
 #[unsafe(no_mangle)]
 pub extern "C" fn goodlock_settle(alloc: Global, session: &mut Session, thread: &mut u32) -> u32
-    requires ours { IfSome session.old.value (λ state. AreOurs state.stage state.receipts.items) }
+    requires ours { IfSome session.old.value
+        (λ state. AreOfItsLanes state.stage state.receipts.items) }
     ensures { IsCall (λ old new. IsSettle old thread.old result thread.new new)
         ((result ≡ MISUSE) × (thread.new ≡ thread.old)) session.old.value session.new.value }
 {

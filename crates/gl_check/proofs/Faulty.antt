@@ -8,13 +8,13 @@ use Rattle.gl_edges.specs.declared.edge.Edge.{Edge as AnyEdge}
 use Rattle.gl_edges.specs.declared.edge.Sample.{Sample}
 use Rattle.gl_check.specs.Checked.{AreListedAt, HasTable, IsCheckFault, IsFalseOf, IsFaultOfTrim, IsFirstFalse, IsOrderFault, Reads}
 use Rattle.gl_check.specs.Cycles.{IsFirstFault}
-use Rattle.gl_check.specs.Shape.{asked_in, cycles_in, format_in, is_report}
+use Rattle.gl_check.specs.Shape.{asked_in, cycles_shown, format_in, is_report}
 use Rattle.gl_check.specs.declared.faults.CheckFault.{CheckFault}
 use Rattle.gl_check.specs.declared.faults.CheckFault.TheVariants.{Json, Shape, Inconsistent, Table, Edge, Verdict, Order, Trim, Memory}
 
 module _ (names : NameLists) (table : List (AnyEdge × Sample)) (before : Segment → Segment → Bool) (d : Data) where
   -- a listed cycle is at fault, as the table is right
-  cycle_fault : (fault : CheckFault) → HasTable names table before d (format_in d) → IsFirstFault (format_in d) names table before (asked_in d) (cycles_in d) fault → IsFirstFalse names table before d fault
+  cycle_fault : (fault : CheckFault) → HasTable names table before d (format_in d) → IsFirstFault (format_in d) names table before (asked_in d) (cycles_shown d) fault → IsFirstFalse names table before d fault
   cycle_fault Json has first = absurd first.is
   cycle_fault Shape has first = absurd first.is
   cycle_fault (Inconsistent at ring) has first = absurd first.is
@@ -25,7 +25,7 @@ module _ (names : NameLists) (table : List (AnyEdge × Sample)) (before : Segmen
   cycle_fault (Trim i) has first = absurd first.is
   cycle_fault Memory has first = tt
 
-  pub false_cycles : (fault : CheckFault) → HasTable names table before d (format_in d) → (fault ≡ Memory) ⊎ IsFirstFault (format_in d) names table before (asked_in d) (cycles_in d) fault → IsFirstFalse names table before d fault
+  pub false_cycles : (fault : CheckFault) → HasTable names table before d (format_in d) → (fault ≡ Memory) ⊎ IsFirstFault (format_in d) names table before (asked_in d) (cycles_shown d) fault → IsFirstFalse names table before d fault
   false_cycles fault has (inl refused) = subst (IsFirstFalse names table before d) (sym refused) tt
   false_cycles fault has (inr first) = cycle_fault fault has first
 

@@ -12,7 +12,7 @@ use Rattle.gl_edges.specs.declared.edge.Edge.{Edge}
 use Rattle.gl_edges.specs.declared.edge.Sample.{Sample}
 use Rattle.gl_report.specs.Tree.{edge_tree, lock_mode_tree, name_tree}
 use Rattle.gl_report.specs.TreeV1.{edge_tree_v1}
-use Rattle.gl_check.specs.Shape.{is_edge, is_letter, is_of, have_fields, has_fields, edge_fields, edge_fields_v1, listed, number_under}
+use Rattle.gl_check.specs.Shape.{is_edge, is_letter, is_of, have_fields, has_fields, edge_fields, edge_fields_v1, items_listed, number_under}
 use Rattle.gl_check.specs.declared.fields.Kind.{Kind}
 use Rattle.gl_check.specs.declared.fields.Kind.TheVariants.{Number, Exactly, Name, Names, Letter, Letters, Word, Flag, Array, Trim}
 
@@ -31,7 +31,7 @@ both true b is = (refl, is)
 both false b is = absurd (false≢true is)
 
 -- texts
-texts : (ds : Items) → list_all (λ name. is_some (as_str name)) (listed ds) ≡ true → (items_have_float ds ≡ false) × (items_depth ds ≡ 0)
+texts : (ds : Items) → list_all (λ name. is_some (as_str name)) (items_listed ds) ≡ true → (items_have_float ds ≡ false) × (items_depth ds ≡ 0)
 texts no_items is = (refl, refl)
 texts (item null ds) is = absurd (false≢true is)
 texts (item (boolean b) ds) is = absurd (false≢true is)
@@ -41,7 +41,7 @@ texts (item (array es) ds) is = absurd (false≢true is)
 texts (item (object ms) ds) is = absurd (false≢true is)
 
 -- letters for modes of locks
-letters : (ds : Items) → list_all is_letter (listed ds) ≡ true → (items_have_float ds ≡ false) × (items_depth ds ≡ 0)
+letters : (ds : Items) → list_all is_letter (items_listed ds) ≡ true → (items_have_float ds ≡ false) × (items_depth ds ≡ 0)
 letters no_items is = (refl, refl)
 letters (item null ds) is = absurd (false≢true is)
 letters (item (boolean b) ds) is = absurd (false≢true is)

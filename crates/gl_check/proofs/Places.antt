@@ -12,7 +12,7 @@ use Rattle.gl_findings.specs.Findings.{class_of}
 use Rattle.gl_findings.specs.declared.listing.Listing.{Listing}
 use Rattle.gl_findings.specs.declared.listing.Listing.TheVariants.{Cycles, Findings}
 use Rattle.gl_check.specs.Signatures.{AreClassesFor}
-use Rattle.gl_check.specs.Edges.{IsPrintOf, IsEdgeAt, IsNamed, IsNoEdge, AreNamed}
+use Rattle.gl_check.specs.Edges.{IsPrintOf, IsEdgeAt, NamesEdge, IsNoEdge, NameEdges}
 use Rattle.gl_check.specs.declared.fields.Format.{Format}
 use Rattle.gl_check.specs.declared.fields.Format.TheVariants.{One, Two, Three}
 
@@ -32,12 +32,12 @@ module _ (names : NameLists) (table : List (Edge × Sample)) (d : Data) where
   none_at_all n whole before position at = before position (let within = slice_get_within table position at.pair at.there in omega arith) at
 
 -- the positions of edges are those of the table
-named_within : (format : Format) (names : NameLists) (table : List (Edge × Sample)) (d : Data) (p : ℕ) → IsNamed format names table d p → p < length table
+named_within : (format : Format) (names : NameLists) (table : List (Edge × Sample)) (d : Data) (p : ℕ) → NamesEdge format names table d p → p < length table
 named_within One names table d p is = slice_get_within table p is.pair is.there
 named_within Two names table d p is = is.1
 named_within Three names table d p is = is.1
 
-pub all_within : (format : Format) (names : NameLists) (table : List (Edge × Sample)) (ds : List Data) (positions : List ℕ) → AreNamed format names table ds positions → All (λ p. p < length table) positions
+pub all_within : (format : Format) (names : NameLists) (table : List (Edge × Sample)) (ds : List Data) (positions : List ℕ) → NameEdges format names table ds positions → All (λ p. p < length table) positions
 all_within format names table [] [] named k d within = absurd (omega arith)
 all_within format names table [] (p ∷ positions) named k d within = absurd named
 all_within format names table (d ∷ ds) [] named k x within = absurd named

@@ -11,7 +11,7 @@ use Rattle.serde_json.specs.View.{items_of}
 use Rattle.gl_filters.specs.Asked.{mode_name, mode_named}
 use Rattle.gl_filters.specs.declared.query.Mode.TheVariants.{Basic, Guarded, Full}
 use Rattle.gl_report.specs.Tree.{positions_tree, trim_tree}
-use Rattle.gl_check.specs.Shape.{has_fields, have_fields, is_below, is_of, items_in, items_under, listed, mode_under, number_of, number_under, order_of, report_fields, trim_in}
+use Rattle.gl_check.specs.Shape.{has_fields, have_fields, is_below, is_of, items_in, items_under, items_listed, mode_under, number_told, number_under, order_of, report_fields, trim_in}
 use Rattle.gl_check.specs.declared.fields.Format.TheVariants.{One, Two, Three}
 use Rattle.gl_check.specs.declared.fields.Kind.{Kind}
 use Rattle.gl_check.specs.declared.fields.Kind.TheVariants.{Number, Exactly, Word, Flag, Array, Trim}
@@ -20,7 +20,7 @@ use Rattle.gl_check.specs.declared.fields.Kind.TheVariants.{Number, Exactly, Wor
 abbrev pub more_under : Data → Bool
 more_under d = unwrap_or (option_and_then as_bool (get (codes "more") d)) false
 
-items_of_listed : (ds : Items) → items_of (listed ds) ≡ ds
+items_of_listed : (ds : Items) → items_of (items_listed ds) ≡ ds
 items_of_listed no_items = refl
 items_of_listed (item d ds) = ap (item d) (items_of_listed ds)
 
@@ -33,7 +33,7 @@ array_is (string s) is = absurd (false≢true is)
 array_is (array ds) is = ap array (sym (items_of_listed ds))
 array_is (object ms) is = absurd (false≢true is)
 
-pub number_is : (bound : ℕ) (d : Data) → is_below bound d ≡ true → d ≡ number (unsigned (number_of d))
+pub number_is : (bound : ℕ) (d : Data) → is_below bound d ≡ true → d ≡ number (unsigned (number_told d))
 number_is bound null is = absurd (false≢true is)
 number_is bound (boolean b) is = absurd (false≢true is)
 number_is bound (number (unsigned n)) is = refl
@@ -141,7 +141,7 @@ rebuilt_v1 (object ms) is =
     of_six ms a.rest b.rest c.rest d.rest e.rest f.rest a.value b.value c.value d.value e.value f.value a.is b.is c.is d.is e.is f.is f.others a.fits b.fits c.fits d.fits e.fits f.fits
 
 -- numbers are what is printed of them
-pub numbers_are : (bound : ℕ) (ds : List Data) → list_all (is_below bound) ds ≡ true → ds ≡ map (λ position. number (unsigned position)) (map number_of ds)
+pub numbers_are : (bound : ℕ) (ds : List Data) → list_all (is_below bound) ds ≡ true → ds ≡ map (λ position. number (unsigned position)) (map number_told ds)
 numbers_are bound [] all = refl
 numbers_are bound (d ∷ ds) all =
     let tests = and_parts (is_below bound d) (list_all (is_below bound) ds) all in
@@ -155,7 +155,7 @@ trim_is null is = refl
 trim_is (boolean b) is = absurd (false≢true is)
 trim_is (number n) is = absurd (false≢true is)
 trim_is (string s) is = absurd (false≢true is)
-trim_is (array ds) is = ap array (sym (items_of_listed ds) ∙ ap items_of (numbers_are (2 ^ 32) (listed ds) is))
+trim_is (array ds) is = ap array (sym (items_of_listed ds) ∙ ap items_of (numbers_are (2 ^ 32) (items_listed ds) is))
 trim_is (object ms) is = absurd (false≢true is)
 
 -- the object with these eight values

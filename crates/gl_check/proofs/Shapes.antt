@@ -8,11 +8,11 @@ use Rattle.std.proofs.lemmas.Slice.Zip.{all_zipped_more}
 use Rattle.std.proofs.lemmas.List.Folds.{list_all_more, list_all_at, list_all-map}
 use Rattle.serde_json.specs.Data.{Data, Members}
 use Rattle.serde_json.specs.View.{items_of}
-use Rattle.gl_check.specs.Shape.{have_fields, listed}
+use Rattle.gl_check.specs.Shape.{have_fields, items_listed}
 use Rattle.gl_check.specs.declared.fields.Kind.{Kind}
 
 -- the items of an array that was made of a list
-pub listed_items_of : (ds : List Data) → listed (items_of ds) ≡ ds
+pub listed_items_of : (ds : List Data) → items_listed (items_of ds) ≡ ds
 listed_items_of [] = refl
 listed_items_of (d ∷ ds) = ap (λ l. d ∷ l) (listed_items_of ds)
 

@@ -15,7 +15,7 @@ use Rattle.gl_findings.specs.Laws.{AreOneFinding, IsToldBy}
 use Rattle.gl_findings.specs.declared.listing.Listing.TheVariants.{Findings}
 use Rattle.gl_findings.proofs.Compared.{le_other, le_trans}
 use Rattle.gl_findings.proofs.LeastTurns.{IsTurnOf, least_from, length-turned, told_once, turn_along, turn_and_back, turn_tells}
-use Rattle.gl_check.specs.Signatures.{Ascend, least_turn, lesser, told_signature}
+use Rattle.gl_check.specs.Signatures.{Ascend, least_turn, lesser_list, told_signature}
 use Rattle.gl_check.proofs.Turns.{turn_more}
 
 le_itself : (xs : List ℕ) → is_le (slice_cmp nat_cmp xs xs) ≡ true
@@ -24,14 +24,14 @@ le_itself xs = elim (cases_Bool (is_le (slice_cmp nat_cmp xs xs))) [ inl le ↦ 
 module _ (xs : List ℕ) where
   -- the least of the turns so far
   abbrev least_to : ℕ → List ℕ
-  least_to m = fold (λ least k. lesser least (turned k xs)) xs (range_with_len 0 m)
+  least_to m = fold (λ least k. lesser_list least (turned k xs)) xs (range_with_len 0 m)
 
   -- it is a turn, and no turn so far is less
   record IsLeastTo (m : ℕ) (least : List ℕ) : Type 0 where
     turn : IsTurnOf xs least
     low : (j : ℕ) → j < m → is_le (slice_cmp nat_cmp least (turned j xs)) ≡ true
 
-  next_least : (m : ℕ) (least : List ℕ) → m < length xs → IsLeastTo m least → IsLeastTo (suc m) (lesser least (turned m xs))
+  next_least : (m : ℕ) (least : List ℕ) → m < length xs → IsLeastTo m least → IsLeastTo (suc m) (lesser_list least (turned m xs))
   next_least m least within is = by (is_le (slice_cmp nat_cmp least (turned m xs))) refl
     where
       by : (le : Bool) → is_le (slice_cmp nat_cmp least (turned m xs)) ≡ le → IsLeastTo (suc m) (cond le least (turned m xs))

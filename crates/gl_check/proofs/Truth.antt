@@ -27,8 +27,8 @@ use Rattle.gl_report.specs.Findings.{findings_tree}
 use Rattle.gl_report.specs.TreeV1.{cycle_tree_v1, edge_tree_v1, report_tree_v1}
 use Rattle.gl_check.specs.Checked.{HasTable, Holds, HoldsOf, IsChecked, IsTrueReport, Reads, Shows, printed}
 use Rattle.gl_check.specs.Cycles.{AreCyclesOf, IsCycleOf}
-use Rattle.gl_check.specs.Edges.{AreNamed, IsNamed}
-use Rattle.gl_check.specs.Shape.{asked_in, cycles_in, format_in, has_fields, is_edge, is_listing, is_member, is_report, items_in, items_under, listing_of, listings_in, report_fields, trim_in}
+use Rattle.gl_check.specs.Edges.{NameEdges, NamesEdge}
+use Rattle.gl_check.specs.Shape.{asked_in, cycles_shown, format_in, has_fields, is_edge, is_listing, is_member, is_report, items_in, items_under, listing_in, listings_in, report_fields, trim_in}
 use Rattle.gl_check.specs.declared.fields.Format.{Format}
 use Rattle.gl_check.specs.declared.fields.Format.TheVariants.{One, Two, Three}
 use Rattle.gl_check.specs.declared.reports.Checked.{Checked}
@@ -52,13 +52,13 @@ three≢one is = cc
 
 module _ (names : NameLists) (table : List (Edge × Sample)) where
   -- but in format 1 the JSON of an edge is its position
-  position_is : (format : Format) → format ≢ One → (d : Data) (p : ℕ) → IsNamed format names table d p → d ≡ number (unsigned p)
+  position_is : (format : Format) → format ≢ One → (d : Data) (p : ℕ) → NamesEdge format names table d p → d ≡ number (unsigned p)
   position_is One other d p is = absurd (other refl)
   position_is Two other d p is = is.0
   position_is Three other d p is = is.0
 
   -- the JSON of edges at positions is what is printed of these edges
-  printed_edges : (ds : List Data) (positions : List ℕ) → AreNamed One names table ds positions → ds ≡ map (edge_tree_v1 names) (filter_map (slice_get table) positions)
+  printed_edges : (ds : List Data) (positions : List ℕ) → NameEdges One names table ds positions → ds ≡ map (edge_tree_v1 names) (filter_map (slice_get table) positions)
   printed_edges [] [] at = refl
   printed_edges [] (p ∷ positions) at = absurd at
   printed_edges (d ∷ ds) [] at = absurd at
@@ -67,7 +67,7 @@ module _ (names : NameLists) (table : List (Edge × Sample)) where
       subst (λ o. d ∷ ds ≡ map (edge_tree_v1 names) (cons_option o (filter_map (slice_get table) positions))) (sym at.0.there) (λ i. at.0.prints.1 i ∷ more i)
 
   -- and of the positions
-  printed_positions : (format : Format) → format ≢ One → (ds : List Data) (positions : List ℕ) → AreNamed format names table ds positions → ds ≡ map (λ position. number (unsigned position)) positions
+  printed_positions : (format : Format) → format ≢ One → (ds : List Data) (positions : List ℕ) → NameEdges format names table ds positions → ds ≡ map (λ position. number (unsigned position)) positions
   printed_positions format other [] [] at = refl
   printed_positions format other [] (p ∷ positions) at = absurd at
   printed_positions format other (d ∷ ds) [] at = absurd at
@@ -77,7 +77,7 @@ module _ (names : NameLists) (table : List (Edge × Sample)) where
       λ i. here i ∷ more i
 
   -- edges at positions are exclusive
-  exclusive : (ds : List Data) (positions : List ℕ) → AreNamed One names table ds positions → All (λ edge. is_exclusive edge ≡ true) (picked (edges_of_table table) positions)
+  exclusive : (ds : List Data) (positions : List ℕ) → NameEdges One names table ds positions → All (λ edge. is_exclusive edge ≡ true) (picked (edges_of_table table) positions)
   exclusive [] [] at = λ k d within. absurd (omega arith)
   exclusive [] (p ∷ positions) at = absurd at
   exclusive (d ∷ ds) [] at = absurd at
@@ -199,10 +199,10 @@ module _ (trace : Trace) (before : Segment → Segment → Bool) (d : Data) (fou
         ap trim_in (rebuilt_three d fields),
       )
 
-  is_true_report : IsTrueReport trace (listing_of (format_in d)) before (report_said trace d found)
+  is_true_report : IsTrueReport trace (listing_in (format_in d)) before (report_said trace d found)
   is_true_report =
       let are = holds.cycles in
-      let long = AllZip-long (IsCycleOf (format_in d) trace.names (edges trace.lists) before (asked_in d)) (cycles_in d) found are.each in
+      let long = AllZip-long (IsCycleOf (format_in d) trace.names (edges trace.lists) before (asked_in d)) (cycles_shown d) found are.each in
       let long_too = length-map (listings_in (format_in d) d) items_in in
       let few = leb-true (length (listings_in (format_in d) d)) (asked_in d).max tests.few in
       record {
@@ -211,7 +211,7 @@ module _ (trace : Trace) (before : Segment → Segment → Bool) (d : Data) (fou
         few = omega arith;
         cycles =
             each_right trace.names (edges trace.lists) before (asked_in d) (format_in d) (IsCycleAt before (asked_in d).mode (asked_in d).len (edges_of_table (edges trace.lists)))
-            (cycle_at trace.names (edges trace.lists) before (asked_in d) (format_in d)) (cycles_in d) found are.each;
+            (cycle_at trace.names (edges trace.lists) before (asked_in d) (format_in d)) (cycles_shown d) found are.each;
         ascend = are.ascend;
         trim = holds.trim;
       }
@@ -224,7 +224,7 @@ module _ (trace : Trace) (before : Segment → Segment → Bool) (d : Data) (fou
 
 -- the answer
 pub is_checked : (trace : Trace) (json : List ℕ) (d : Data) (found : List (List ℕ)) (checked : Checked) → Reads json d → is_report d ≡ true → HoldsOf trace d found
-    → checked.listing ≡ listing_of (format_in d) → checked.cycles ≡ length found → checked.acyclic ≡ is_some (trim_in d) → IsChecked trace json checked
+    → checked.listing ≡ listing_in (format_in d) → checked.cycles ≡ length found → checked.acyclic ≡ is_some (trim_in d) → IsChecked trace json checked
 is_checked trace json d found checked reads shaped held lists counted trimmed =
     let tests = shaped_by d shaped in
     let told = printed_as trace held.before d found shaped held.holds (format_in d) tests.fields tests.cycles_are held.holds.printed_table held.holds.cycles in
@@ -245,8 +245,8 @@ is_checked trace json d found checked reads shaped held lists counted trimmed =
 
 -- listed cycles are as many as those found
 pub as_many : (format : Format) (names : NameLists) (table : List (Edge × Sample)) (before : Segment → Segment → Bool) (asked : Asked) (d : Data) (found : List (List ℕ))
-    → AreCyclesOf format names table before asked (cycles_in d) found → length found ≡ length (listings_in (format_in d) d)
+    → AreCyclesOf format names table before asked (cycles_shown d) found → length found ≡ length (listings_in (format_in d) d)
 as_many format names table before asked d found are =
-    let long = AllZip-long (IsCycleOf format names table before asked) (cycles_in d) found are.each in
+    let long = AllZip-long (IsCycleOf format names table before asked) (cycles_shown d) found are.each in
     let long_too = length-map (listings_in (format_in d) d) items_in in
     omega arith

@@ -8,7 +8,7 @@ use Rattle.std.proofs.lemmas.List.Sums.{fold_push}
 use Rattle.std.proofs.lemmas.Option.{slice_get-get_or}
 use Rattle.gl_index.proofs.Lists.{range-more}
 use Rattle.gl_findings.specs.Findings.{turned}
-use Rattle.gl_check.specs.Signatures.{lesser}
+use Rattle.gl_check.specs.Signatures.{lesser_list}
 
 -- one class more
 pub class_more : (classes positions : List ℕ) (i : ℕ) → i < length positions → get_or positions i 0 < length classes
@@ -19,8 +19,8 @@ class_more classes positions i within below =
 
 -- one turn more
 pub turn_more : (signature : List ℕ) (k : ℕ)
-    → fold (λ least j. lesser least (turned j signature)) signature (range_with_len 0 (k + 1)) ≡ lesser (fold (λ least j. lesser least (turned j signature)) signature (range_with_len 0 k)) (turned k signature)
+    → fold (λ least j. lesser_list least (turned j signature)) signature (range_with_len 0 (k + 1)) ≡ lesser_list (fold (λ least j. lesser_list least (turned j signature)) signature (range_with_len 0 k)) (turned k signature)
 turn_more signature k =
     let e : 0 + k ≡ k = omega arith in
-    ap (fold (λ least j. lesser least (turned j signature)) signature) (range-more 0 k ∙ ap (λ n. range_with_len 0 k ++ n ∷ []) e)
-    ∙ fold_push (λ least j. lesser least (turned j signature)) signature (range_with_len 0 k) k
+    ap (fold (λ least j. lesser_list least (turned j signature)) signature) (range-more 0 k ∙ ap (λ n. range_with_len 0 k ++ n ∷ []) e)
+    ∙ fold_push (λ least j. lesser_list least (turned j signature)) signature (range_with_len 0 k) k

@@ -23,7 +23,7 @@ use Rattle.gl_report.specs.Tree.{edge_tree, report_tree}
 use Rattle.gl_report.specs.TreeV1.{report_tree_v1}
 use Rattle.gl_check.specs.Cycles.{AreCyclesOf, IsFirstFault}
 use Rattle.gl_check.specs.Edges.{IsFirstDifference}
-use Rattle.gl_check.specs.Shape.{asked_in, cycles_in, format_in, is_report, items_under, listing_of, trim_in}
+use Rattle.gl_check.specs.Shape.{asked_in, cycles_shown, format_in, is_report, items_under, listing_in, trim_in}
 use Rattle.gl_check.specs.Signatures.{Ascend}
 use Rattle.gl_check.specs.declared.fields.Format.{Format}
 use Rattle.gl_check.specs.declared.fields.Format.TheVariants.{One, Two, Three}
@@ -75,9 +75,9 @@ pub record IsChecked (trace : Trace) (json : List ℕ) (checked : Checked) : Typ
   pub format : Format
   pub prints : Reads json (printed format trace.names report)
   pub shows : Shows format report
-  pub is_true : IsTrueReport trace (listing_of format) before report
+  pub is_true : IsTrueReport trace (listing_in format) before report
   -- what is answered: what is listed, by how many cycles, and whether a trim order is there
-  pub lists : checked.listing ≡ listing_of format
+  pub lists : checked.listing ≡ listing_in format
   pub counted : checked.cycles ≡ length report.found.cycles
   pub trimmed : checked.acyclic ≡ is_some report.trim
   -- then the trace has no cycle of the mode, of whatever length
@@ -99,7 +99,7 @@ module _ (names : NameLists) (table : List (Edge × Sample)) (before : Segment �
   -- the listed cycles are cycles that were asked for, at these positions, and ascend
   abbrev pub AreListedAt : List (List ℕ) → Type 0
   AreListedAt found =
-      AreCyclesOf (format_in said) names table before (asked_in said) (cycles_in said) found
+      AreCyclesOf (format_in said) names table before (asked_in said) (cycles_shown said) found
 
   -- the trim order, if one is said, takes away each edge
   abbrev pub HasWholeTrim : Type 0
@@ -134,7 +134,7 @@ module _ (names : NameLists) (table : List (Edge × Sample)) (before : Segment �
   pub record IsCyclesFault (fault : CheckFault) : Type 0 where
     pub printed_table : HasTable (format_in said)
     pub first : IsFirstFault (format_in said) names table before (asked_in said)
-        (cycles_in said) fault
+        (cycles_shown said) fault
 
   -- table and cycles are right, and this is the first place at which the trim order is wrong
   pub record IsTrimFault (place : ℕ) : Type 0 where

@@ -26,14 +26,16 @@ abbrev pub IsNoEdge : NameLists → List (Edge × Sample) → Data → Type 0
 IsNoEdge names table d = (position : ℕ) → ¬ IsEdgeAt names table d position
 
 -- the JSON names the edge at this position: in format 1 it is that of the edge, in the others the position
-abbrev pub IsNamed : Format → NameLists → List (Edge × Sample) → Data → ℕ → Type 0
-IsNamed One names table d position = IsEdgeAt names table d position
-IsNamed Two names table d position = (d ≡ number (unsigned position)) × (position < length table)
-IsNamed Three names table d position = (d ≡ number (unsigned position)) × (position < length table)
+abbrev pub NamesEdge : Format → NameLists → List (Edge × Sample) → Data → ℕ → Type 0
+NamesEdge One names table d position = IsEdgeAt names table d position
+NamesEdge Two names table d position =
+    (d ≡ number (unsigned position)) × (position < length table)
+NamesEdge Three names table d position =
+    (d ≡ number (unsigned position)) × (position < length table)
 
 -- these name the edges at these positions
-abbrev pub AreNamed : Format → NameLists → List (Edge × Sample) → List Data → List ℕ → Type 0
-AreNamed format names table ds positions = AllZip (IsNamed format names table) ds positions
+abbrev pub NameEdges : Format → NameLists → List (Edge × Sample) → List Data → List ℕ → Type 0
+NameEdges format names table ds positions = AllZip (NamesEdge format names table) ds positions
 
 -- the first position at which two lists differ; one of them may end there
 pub record IsFirstDifference {X : Type 0} (xs ys : List X) (k : ℕ) : Type 0 where

@@ -15,21 +15,21 @@ use Rattle.gl_findings.specs.declared.listing.Listing.{Listing}
 use Rattle.gl_findings.specs.declared.listing.Listing.TheVariants.{Cycles, Findings}
 
 -- the items of an array, one after the other
-abbrev pub listed : Items → List Data
-listed no_items = []
-listed (item d ds) = d ∷ listed ds
+abbrev pub items_listed : Items → List Data
+items_listed no_items = []
+items_listed (item d ds) = d ∷ items_listed ds
 
 -- what stands in a value: its items, where it is an array
 abbrev pub items_in : Data → List Data
-items_in d = unwrap_or (option_map listed (as_array d)) []
+items_in d = unwrap_or (option_map items_listed (as_array d)) []
 
 -- the whole number that a value is, if it is one
 abbrev pub whole : Data → Option ℕ
 whole d = option_and_then as_u64 (as_number d)
 
 -- and 0 where it is none
-abbrev pub number_of : Data → ℕ
-number_of d = unwrap_or (whole d) 0
+abbrev pub number_told : Data → ℕ
+number_told d = unwrap_or (whole d) 0
 
 -- a whole number below this one
 abbrev pub is_below : ℕ → Data → Bool
@@ -130,10 +130,10 @@ format_in d =
     else (if number_under (codes "format") d == 3 then Three else Two)
 
 -- what is listed in a format
-abbrev pub listing_of : Format → Listing
-listing_of One = Cycles
-listing_of Two = Cycles
-listing_of Three = Findings
+abbrev pub listing_in : Format → Listing
+listing_in One = Cycles
+listing_in Two = Cycles
+listing_in Three = Findings
 
 -- what stands in the array under a key
 abbrev pub items_under : List ℕ → Data → List Data
@@ -146,12 +146,12 @@ listings_in Two d = items_under (codes "cycles") d
 listings_in Three d = items_under (codes "findings") d
 
 -- the listed cycles, each with what it lists
-abbrev pub cycles_in : Data → List (List Data)
-cycles_in d = map items_in (listings_in (format_in d) d)
+abbrev pub cycles_shown : Data → List (List Data)
+cycles_shown d = map items_in (listings_in (format_in d) d)
 
 -- the numbers that a value lists, where it is an array
 abbrev pub order_of : Data → Option (List ℕ)
-order_of d = option_map (λ ds. map number_of (listed ds)) (as_array d)
+order_of d = option_map (λ ds. map number_told (items_listed ds)) (as_array d)
 
 -- the order in which the edges go, where one is given
 abbrev pub trim_in : Data → Option (List ℕ)

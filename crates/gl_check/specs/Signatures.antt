@@ -11,13 +11,13 @@ use Rattle.gl_findings.specs.declared.listing.Listing.{Listing}
 use Rattle.gl_findings.specs.declared.listing.Listing.TheVariants.{Cycles, Findings}
 
 -- of two lists the one that is no greater, by the first number in which they differ
-abbrev pub lesser : List ℕ → List ℕ → List ℕ
-lesser one other = if is_le (slice_cmp nat_cmp one other) then one else other
+abbrev pub lesser_list : List ℕ → List ℕ → List ℕ
+lesser_list one other = if is_le (slice_cmp nat_cmp one other) then one else other
 
 -- the least of the turns of a signature
 abbrev pub least_turn : List ℕ → List ℕ
 least_turn signature =
-    fold (λ least k. lesser least (turned k signature)) signature
+    fold (λ least k. lesser_list least (turned k signature)) signature
     (range_with_len 0 (length signature))
 
 -- the signature of a finding, by the positions of a cycle that shows it, told from where it begins least

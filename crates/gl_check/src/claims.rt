@@ -2,7 +2,7 @@
 ghost use Rattle.std.specs.Prelude.{◌≡◌, false, true, None, is_none, length, map, option_map, ◌≤◌, IfOk, MatchOption};
 ghost use Rattle.serde_json.specs.View.{view};
 ghost use Rattle.gl_filters.specs.Asked.{first_out_of_range};
-ghost use Rattle.gl_check.specs.Shape.{asked_in, format_in, is_report, listings_in, mode_under, number_of, order_of, trim_in};
+ghost use Rattle.gl_check.specs.Shape.{asked_in, format_in, is_report, listings_in, mode_under, number_told, order_of, trim_in};
 
 use crate::fields::{
     Format, are_edges, are_listings, has_report_fields, items_under, listings_in, number_of,
@@ -77,7 +77,7 @@ pub(crate) fn asked_of(value: &Value) -> Option<Query>
 
 // The whole numbers that these are.
 fn numbers_of(alloc: Global, values: &[Value]) -> Result<Vec<usize>, Memory>
-    ensures { IfOk result (λ numbers. numbers.items ≡ map number_of (map view values.now)) }
+    ensures { IfOk result (λ numbers. numbers.items ≡ map number_told (map view values.now)) }
 {
     let mut numbers = Vec::new(alloc);
     for value in values {

@@ -4,9 +4,9 @@ ghost use Rattle.std.specs.Bool.{Decides};
 ghost use Rattle.std.specs.List.{list_all};
 ghost use Rattle.serde_json.specs.View.{view};
 ghost use Rattle.gl_segments.specs.Clocks.{is_before};
-ghost use Rattle.gl_check.specs.Cycles.{AreCyclesOf, IsAboveLast, IsCycleOf, IsFaultOf, IsFirstFault, IsFirstStrange};
-ghost use Rattle.gl_check.specs.Edges.{AreNamed};
-ghost use Rattle.gl_check.specs.Shape.{is_listing, is_member, items_in, listing_of};
+ghost use Rattle.gl_check.specs.Cycles.{AreCyclesOf, IsGreaterThanLast, IsCycleOf, IsFaultOf, IsFirstFault, IsFirstStrange};
+ghost use Rattle.gl_check.specs.Edges.{NameEdges};
+ghost use Rattle.gl_check.specs.Shape.{is_listing, is_member, items_in, listing_in};
 ghost use Rattle.gl_check.specs.Signatures.{AreClassesFor, compared_by};
 ghost use Rattle.gl_check.specs.declared.faults.CheckFault.TheVariants.{Memory};
 ghost use Rattle.gl_check.specs.declared.fields.Format.TheVariants.{One};
@@ -34,7 +34,7 @@ fn positions_of(
 ) -> Result<Vec<usize>, CheckFault>
     requires { list_all (is_member format (length table.now)) (map view edges.now) ≡ true }
     ensures found { IfOk result
-        (λ positions. AreNamed format names.now table.now (map view edges.now) positions.items) }
+        (λ positions. NameEdges format names.now table.now (map view edges.now) positions.items) }
     ensures fault { IfErr result
         (λ fault. (fault ≡ Memory)
         ⊎ ((k : ℕ) × (fault ≡ CheckFault.Edge number k) × (format ≡ One)
@@ -52,7 +52,7 @@ fn positions_of(
 
 // Whether the numbers are above those of the last list.
 fn is_above(lists: &[Vec<usize>], numbers: &[usize]) -> bool
-    ensures { Decides result (IsAboveLast (map (λ v. v.items) lists.now) numbers.now) }
+    ensures { Decides result (IsGreaterThanLast (map (λ v. v.items) lists.now) numbers.now) }
 {
     match lists.last() {
         Some(last) => last.as_slice().cmp(numbers) == Ordering::Less,
@@ -111,7 +111,7 @@ impl Known<'_> {
         lists: &[Vec<usize>],
         edges: &[Value],
     ) -> Result<Vec<usize>, CheckFault>
-        requires classes { AreClassesFor (listing_of self.now.format) self.now.edges.now
+        requires classes { AreClassesFor (listing_in self.now.format) self.now.edges.now
             classes.now }
         requires members { list_all (is_member self.now.format (length self.now.edges.now))
             (map view edges.now) ≡ true }
@@ -120,12 +120,12 @@ impl Known<'_> {
             × IsCycleOf self.now.format self.now.names.now self.now.edges.now
             (is_before self.now.order.now) self.now.query (map view edges.now) positions
             × (numbers.items
-            ≡ compared_by (listing_of self.now.format) self.now.edges.now positions)) }
+            ≡ compared_by (listing_in self.now.format) self.now.edges.now positions)) }
         ensures above { IfOk result
-            (λ numbers. IsAboveLast (map (λ v. v.items) lists.now) numbers.items) }
+            (λ numbers. IsGreaterThanLast (map (λ v. v.items) lists.now) numbers.items) }
         ensures fault { IfErr result
             (λ fault. (found : List (List ℕ))
-            → map (compared_by (listing_of self.now.format) self.now.edges.now) found
+            → map (compared_by (listing_in self.now.format) self.now.edges.now) found
             ≡ map (λ v. v.items) lists.now
             → IsFaultOf self.now.format self.now.names.now self.now.edges.now
             (is_before self.now.order.now) self.now.query (length lists.now) found
@@ -147,7 +147,7 @@ impl Known<'_> {
         classes: &[usize],
         cycles: &[Value],
     ) -> Result<usize, CheckFault>
-        requires classes { AreClassesFor (listing_of self.now.format) self.now.edges.now
+        requires classes { AreClassesFor (listing_in self.now.format) self.now.edges.now
             classes.now }
         requires listings { list_all (is_listing self.now.format (length self.now.edges.now))
             (map view cycles.now) ≡ true }

@@ -6,7 +6,7 @@ ghost use Rattle.serde_json.specs.Data.{depth};
 ghost use Rattle.serde_json.specs.Read.{max_depth};
 ghost use Rattle.serde_json.specs.View.{view};
 ghost use Rattle.serde_json.specs.Written.{has_float};
-ghost use Rattle.gl_check.specs.Edges.{IsEdgeAt, IsFirstDifference, IsNamed, IsNoEdge, IsPrintOf};
+ghost use Rattle.gl_check.specs.Edges.{IsEdgeAt, IsFirstDifference, NamesEdge, IsNoEdge, IsPrintOf};
 ghost use Rattle.gl_check.specs.Shape.{edge_fields_v1, has_fields, is_edge, is_member, number_under};
 ghost use Rattle.gl_check.specs.declared.faults.CheckFault.TheVariants.{Memory};
 ghost use Rattle.gl_check.specs.declared.fields.Format.TheVariants.{One};
@@ -122,7 +122,7 @@ pub(crate) fn position_of(
     ensures { IfOk result
         (λ found. MatchOption found
         ((format ≡ One) × IsNoEdge names.now table.now (view value.now))
-        (IsNamed format names.now table.now (view value.now))) }
+        (NamesEdge format names.now table.now (view value.now))) }
 {
     match format {
         Format::One => first_position(alloc, names, table, value),

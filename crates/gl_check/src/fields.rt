@@ -4,7 +4,7 @@ ghost use Rattle.std.specs.List.{list_all};
 ghost use Rattle.serde_json.specs.Find.{as_str};
 ghost use Rattle.serde_json.specs.View.{view, members_view};
 ghost use Rattle.gl_check.specs.declared.fields.Kind.{Kind};
-ghost use Rattle.gl_check.specs.Shape.{edge_fields, edge_fields_v1, has_fields, have_fields, is_below, is_edge, is_letter, is_listing, is_member, is_of, items_in, items_under, listing_of, listings_in, number_of, number_under, report_fields};
+ghost use Rattle.gl_check.specs.Shape.{edge_fields, edge_fields_v1, has_fields, have_fields, is_below, is_edge, is_letter, is_listing, is_member, is_of, items_in, items_under, listing_in, listings_in, number_told, number_under, report_fields};
 
 use gl_filters::Mode;
 use gl_findings::Listing;
@@ -24,7 +24,7 @@ pub(crate) enum Format {
 
 /// What is listed in a format.
 pub(crate) fn listing_of(format: Format) -> Listing
-    ensures { result ≡ listing_of format }
+    ensures { result ≡ listing_in format }
 {
     match format {
         Format::One | Format::Two => Listing::Cycles,
@@ -96,7 +96,7 @@ pub(crate) fn number_under(value: &Value, key: &str) -> u64
 
 /// The whole number that the value is, or 0.
 pub(crate) fn number_of(value: &Value) -> u64
-    ensures { result ≡ number_of (view value.now) }
+    ensures { result ≡ number_told (view value.now) }
 {
     value.as_u64().unwrap_or(0)
 }

@@ -8,7 +8,7 @@ ghost use Rattle.gl_event.specs.declared.events.Event.{Event};
 ghost use Rattle.gl_segments.specs.Orders.{IsFaultOf};
 ghost use Rattle.gl_check.specs.Faults.{listing_word};
 ghost use Rattle.gl_check.specs.Checked.{HoldsOf, IsChecked, IsCheckFault, IsFalseOf, IsOrderFault, Reads};
-ghost use Rattle.gl_check.specs.Shape.{asked_in, format_in, is_report, listing_of, listings_in, trim_in};
+ghost use Rattle.gl_check.specs.Shape.{asked_in, format_in, is_report, listing_in, listings_in, trim_in};
 ghost use Rattle.gl_check.specs.declared.faults.CheckFault.TheVariants.{Json, Memory};
 
 use crate::claims::{asked_of, format_in};
@@ -102,7 +102,7 @@ fn checked_of(
         ≤ 100000 }
     ensures ok { IfOk result
         (λ checked. (found : List (List ℕ)) × HoldsOf trace.now (view value.now) found
-        × (checked.listing ≡ listing_of (format_in (view value.now)))
+        × (checked.listing ≡ listing_in (format_in (view value.now)))
         × (checked.cycles ≡ length found)
         × (checked.acyclic ≡ is_some (trim_in (view value.now)))) }
     ensures fault { IfErr result

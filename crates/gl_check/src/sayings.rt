@@ -5,7 +5,7 @@ ghost use Rattle.gl_report.specs.Tree.{edge_tree};
 ghost use Rattle.gl_segments.specs.Clocks.{is_before};
 ghost use Rattle.gl_check.specs.Checked.{HasTable, HasWholeTrim, Holds, IsFaultOfTrim, IsFirstFalse, ShowsTable};
 ghost use Rattle.gl_check.specs.Edges.{IsFirstDifference};
-ghost use Rattle.gl_check.specs.Shape.{asked_in, format_in, is_report, items_under, listing_of, listings_in, trim_in};
+ghost use Rattle.gl_check.specs.Shape.{asked_in, format_in, is_report, items_under, listing_in, listings_in, trim_in};
 ghost use Rattle.gl_check.specs.declared.faults.CheckFault.TheVariants.{Memory};
 
 use crate::claims::trim_in;
@@ -74,7 +74,7 @@ impl Known<'_> {
         ensures ok { IfOk result
             (λ checked. (found : List (List ℕ))
             × Holds self.now.names.now self.now.edges.now (is_before self.now.order.now)
-            (view value.now) found × (checked.listing ≡ listing_of (format_in (view value.now)))
+            (view value.now) found × (checked.listing ≡ listing_in (format_in (view value.now)))
             × (checked.cycles ≡ length found)
             × (checked.acyclic ≡ is_some (trim_in (view value.now)))) }
         ensures fault { IfErr result

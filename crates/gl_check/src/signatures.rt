@@ -5,7 +5,7 @@ ghost use Rattle.gl_edges.specs.declared.edge.Edge.{Edge};
 ghost use Rattle.gl_edges.specs.declared.edge.Sample.{Sample};
 ghost use Rattle.gl_findings.specs.Findings.{turned};
 ghost use Rattle.gl_findings.specs.declared.listing.Listing.TheVariants.{Findings};
-ghost use Rattle.gl_check.specs.Signatures.{AreClassesFor, compared_by, least_turn, lesser};
+ghost use Rattle.gl_check.specs.Signatures.{AreClassesFor, compared_by, least_turn, lesser_list};
 
 use gl_edges::{Edge, Sample};
 use gl_event::Memory;
@@ -38,7 +38,7 @@ fn turned(alloc: Global, signature: &[usize], k: usize) -> Result<Vec<usize>, Me
 
 // Of two lists the one that is no greater.
 fn lesser(one: Vec<usize>, other: Vec<usize>) -> Vec<usize>
-    ensures { result.items ≡ lesser one.items other.items }
+    ensures { result.items ≡ lesser_list one.items other.items }
 {
     if one.as_slice().cmp(other.as_slice()).is_le() {
         one

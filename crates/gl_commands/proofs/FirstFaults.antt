@@ -8,7 +8,7 @@ use Rattle.gl_std.specs.declared.faults.StdKind.{StdKind}
 use Rattle.gl_std.specs.declared.faults.ReadFault.{ReadFault}
 use Rattle.gl_std.specs.declared.faults.ReadFault.TheVariants.{Line}
 use Rattle.gl_std.specs.declared.trace.Trace.{Trace}
-use Rattle.gl_commands.specs.Ending.{EndsEarlyAs, HasNoFault}
+use Rattle.gl_commands.specs.Ending.{EndsEarlyAs, IsFaultless}
 use Rattle.gl_commands.specs.bodies.Stops.{IfRefused, IsFaultIn}
 use Rattle.gl_commands.specs.declared.ended.Ended.{Ended}
 use Rattle.gl_commands.specs.declared.ended.Ended.TheVariants as variant
@@ -37,7 +37,7 @@ told_fault limits text read (Err ended) is fault bad =
 -- ---- in the lines that LF had ended
 
 -- none is at fault
-pub no_fault_before : (limits : Bounds) (text : List ℕ) (told : Trace) → trace_of limits (ended_lines text) ≡ Ok told → HasNoFault limits text
+pub no_fault_before : (limits : Bounds) (text : List ℕ) (told : Trace) → trace_of limits (ended_lines text) ≡ Ok told → IsFaultless limits text
 no_fault_before limits text told is number kind bad =
     let clash : Ok told ≡ Err (Line number kind) = sym is ∙ bad in
     cc

@@ -64,14 +64,14 @@ pub record IsFaultBefore (limits : Bounds) (text line : List ℕ) : Type 0 where
   pub said : line ≡ fault_line number kind
 
 -- no line that LF had ended has a fault under these limits
-abbrev pub HasNoFault : Bounds → List ℕ → Type 0
-HasNoFault limits text =
+abbrev pub IsFaultless : Bounds → List ℕ → Type 0
+IsFaultless limits text =
     (number : ℕ) (kind : StdKind) → trace_of limits (ended_lines text) ≢ Err (Line number kind)
 
 -- how it ended, where no more than this text was read
 abbrev pub EndsEarlyAs : Bounds → List ℕ → Ended → Type 0
 EndsEarlyAs limits text (Refused line) = IsFaultBefore limits text line.items
-EndsEarlyAs limits text ReadFailed = HasNoFault limits text
+EndsEarlyAs limits text ReadFailed = IsFaultless limits text
 EndsEarlyAs limits text Memory = Unit {0}
 EndsEarlyAs limits text other = ⊥
 

@@ -12,12 +12,12 @@ use Rattle.gl_commands.specs.Ending.{HasEndedLive, HasEndedStreamed}
 use Rattle.gl_commands.specs.declared.ended.Ended.{Ended}
 
 -- what the options ask to be listed
-abbrev pub listing_of : LiveOptions → Listing
-listing_of options = if options.findings then Findings else Cycles
+abbrev pub listing_asked : LiveOptions → Listing
+listing_asked options = if options.findings then Findings else Cycles
 
 -- what a session prints of a trace: what `predict` prints that lists the same
 abbrev pub session_prediction : LiveOptions → (Segment → Segment → Bool) → Trace → Answer
-session_prediction options = prediction (listing_of options) options.query options.form
+session_prediction options = prediction (listing_asked options) options.query options.form
 
 -- the end of a session that predicts, after at most so many turns over this reader and this writer: the text is read whole first, or, where
 -- the options say so, recorded as it comes, under a limit of threads

@@ -8,7 +8,7 @@ ghost use Rattle.gl_live.specs.declared.faults.LiveFault.TheVariants.{Memory as 
 ghost use Rattle.gl_std.specs.Trace.{IsTraceOver};
 ghost use Rattle.gl_options.specs.Sessions.{AreOfSession};
 ghost use Rattle.gl_commands.specs.Answer.{IsAnswer};
-ghost use Rattle.gl_commands.specs.Sessions.{listing_of, session_prediction};
+ghost use Rattle.gl_commands.specs.Sessions.{listing_asked, session_prediction};
 ghost use Rattle.gl_commands.specs.bodies.Needed.{contents_of};
 ghost use Rattle.gl_commands.specs.bodies.Stops.{IfStopped, IsAnsweredInSession, IsLoopOf};
 
@@ -28,7 +28,7 @@ use std::thread::Threads;
 
 /// What the options ask to be listed.
 pub(crate) fn listing_of(options: &LiveOptions) -> Listing
-    ensures { result ≡ listing_of options.now }
+    ensures { result ≡ listing_asked options.now }
 {
     if options.findings {
         return Listing::Findings;

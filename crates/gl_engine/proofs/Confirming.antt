@@ -33,7 +33,7 @@ use Rattle.gl_engine.specs.Collecting.{Pulling, as_of}
 use Rattle.gl_engine.specs.Receipts.{has_receipt, is_strange, AreOfRecorders, AreOwnBelow, AreThereBelow}
 use Rattle.gl_engine.specs.Keeping.{AreNotesOf, pulling_of}
 use Rattle.gl_engine.specs.Recording.{Closed, recorded_whole}
-use Rattle.gl_engine.specs.Settling.{AreListsOf, IsMemoryOrGone, IsSettled, told}
+use Rattle.gl_engine.specs.Settling.{AreListsOf, IsMemoryOrGone, IsSettled, fault_for}
 use Rattle.gl_engine.specs.bodies.Whole.{lane_of, IsCollected, IsConfirmed, IsWhole}
 use Rattle.gl_engine.specs.declared.gathered.RunFault.{RunFault}
 use Rattle.gl_engine.specs.declared.gathered.RunFault.TheVariants as kept
@@ -254,7 +254,7 @@ module _ (session : ℕ) (limits : Bounds) (inputs : List LaneInput) (receipts :
         none_to_blame limits thread stream is.taken is.note why r its (its_limits at r here) first is.told is.refused
 
     -- with its receipts, a run is left with no fault of a lane
-    pub memory_or_gone : (f : RunFault) → IsBlamed limits inputs stream f → IsMemoryOrGone (told f)
+    pub memory_or_gone : (f : RunFault) → IsBlamed limits inputs stream f → IsMemoryOrGone (fault_for f)
     memory_or_gone kept.Memory is = tt
     memory_or_gone (kept.Gone shard) is = tt
     memory_or_gone (kept.Broken thread why) is = absurd (never_broken thread why is)

@@ -27,7 +27,7 @@ use Rattle.gl_world.specs.Keeping.{notes_of, IsFrontOf, AreMade, with_body}
 use Rattle.gl_world.proofs.Lists.{same_some, get_at, get_set_same, get_set_other}
 use Rattle.gl_world.proofs.Makings.{made_pulled}
 use Rattle.gl_world.proofs.Sound.{notes_own, notes_other}
-use Rattle.gl_engine.specs.Collecting.{Pulling, Collecting, Side, as_of, pop_note, pulled_of, HasPulled, IsSidePull, IsPull}
+use Rattle.gl_engine.specs.Collecting.{Pulling, Collecting, Side, as_of, with_popped, pulled_of, HasPulled, IsSidePull, IsPull}
 use Rattle.gl_engine.specs.Dealing.{edges_of_next, made_by}
 use Rattle.gl_engine.specs.Keeping.{AreInputs, BreaksForCause, IsCollector, IsStuck, pulling_of}
 use Rattle.gl_engine.proofs.Dealt.{made_by_more}
@@ -138,7 +138,7 @@ pull_ok limits thread old (Closing count) new has = has
 
 -- the side with the front note popped, which joined the stream as this one
 abbrev pub taken_side : Side → Note → Note → Side
-taken_side old front note = record { input = pop_note old.input front; stream = old.stream ++ note ∷ []; made = old.made ++ edges_of_next old.stream note }
+taken_side old front note = record { input = with_popped old.input front; stream = old.stream ++ note ∷ []; made = old.made ++ edges_of_next old.stream note }
 
 -- the front note was taken, read as one of the thread
 pub took : (limits : Bounds) (thread : ℕ) (old : Side) (front note : Note) → as_of thread front ≡ note → (answer : Pulled) (new : Side) → old.input.broken ≡ None → note_refusal limits old.stream note ≡ None

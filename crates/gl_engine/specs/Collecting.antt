@@ -68,8 +68,8 @@ pub record IsTurn (most thread : ℕ) (before after : List Note) : Type 0 where
   pub joined : before ++ map (as_of thread) notes ≡ after
 
 -- the input with one note more popped
-abbrev pub pop_note : Pulling → Note → Pulling
-pop_note input note = record input { popped = input.popped ++ note ∷ [] }
+abbrev pub with_popped : Pulling → Note → Pulling
+with_popped input note = record input { popped = input.popped ++ note ∷ [] }
 
 -- the input whose front note was refused
 abbrev pub break_input : Pulling → Refused → Pulling
@@ -99,7 +99,7 @@ abbrev pub with_pulled : ℕ → Side → Note → Side
 with_pulled thread side note =
     let own = as_of thread note in
     record {
-      input = pop_note side.input note;
+      input = with_popped side.input note;
       stream = side.stream ++ own ∷ [];
       made = side.made ++ edges_of_next side.stream own;
     }

@@ -26,6 +26,21 @@ pub record Closed : Type 0 where
   pub lane : LaneId
   pub pushed : List Note
 
+-- who records: the session, the thread, the limits, and the lane
+pub record Identity : Type 0 where
+  pub session : ℕ
+  pub thread : ℕ
+  pub limits : Bounds
+  pub lane : LaneId
+
+-- who the recorder is
+abbrev pub identity_of : Recording → Identity
+identity_of r = record { session = r.session; thread = r.thread; limits = r.limits; lane = r.lane }
+
+-- whose the receipt is
+abbrev pub left_by : Closed → Identity
+left_by r = record { session = r.session; thread = r.thread; limits = r.limits; lane = r.lane }
+
 -- the events that the recorder took
 abbrev pub recorded : Recording → List Event
 recorded r = events_of r.thread r.pushed

@@ -49,10 +49,10 @@ IsMemoryOrGone (fault.Gone shard) = Unit {0}
 IsMemoryOrGone (fault.Broken thread refused) = ⊥
 
 -- what settling answers for what went wrong in the run
-abbrev pub told : RunFault → SettleFault
-told kept.Memory = fault.Memory
-told (kept.Gone shard) = fault.Gone shard
-told (kept.Broken thread refused) = fault.Broken thread refused
+abbrev pub fault_for : RunFault → SettleFault
+fault_for kept.Memory = fault.Memory
+fault_for (kept.Gone shard) = fault.Gone shard
+fault_for (kept.Broken thread refused) = fault.Broken thread refused
 
 -- the lists are the receipts', and the feeds were sent the edges of these lists, each with its least sample, and no others
 pub record IsSettled (receipts : List Closed) (lists : List (List Event)) (sent : List AllSent)

@@ -2,7 +2,7 @@
 ghost use Rattle.std.specs.Prelude.{◌≡◌, Some, IfOk, IfErr};
 ghost use Rattle.gl_engine.specs.Gathering.{AreOurs};
 ghost use Rattle.gl_engine.specs.Receipts.{AreComplete};
-ghost use Rattle.gl_engine.specs.Settling.{told, IsMemoryOrGone, IsSettledFrom};
+ghost use Rattle.gl_engine.specs.Settling.{fault_for, IsMemoryOrGone, IsSettledFrom};
 
 use crate::lane_input::LaneInput;
 use crate::receipt::Receipt;
@@ -95,7 +95,7 @@ impl Gathered {
         ensures settled { IfOk result
             (λ settled. IsSettledFrom self receipts.old settled.0 settled.1.items) }
         ensures fault { IfErr result (λ fault. self.fault ≡ Some fault) }
-        ensures complete { IfErr result (λ fault. IsMemoryOrGone (told fault)) }
+        ensures complete { IfErr result (λ fault. IsMemoryOrGone (fault_for fault)) }
     {
         let Gathered {
             alloc,

@@ -3,7 +3,7 @@ ghost use Rattle.std.specs.Prelude.{◌≡◌, IfOk, IfErr, IfNone, IfSome, IsOk
 ghost use Rattle.gl_engine.specs.Collecting.{lanes_of};
 ghost use Rattle.gl_engine.specs.Gathering.{AreOurs};
 ghost use Rattle.gl_engine.specs.Receipts.{AreComplete, AreOfRecorders};
-ghost use Rattle.gl_engine.specs.Settling.{told, HaveEndedBelow, IsFirstUnended, IsMemoryOrGone, IsSettleFault, IsSettledAlone, IsSettledFrom, IsUnsettledFault};
+ghost use Rattle.gl_engine.specs.Settling.{fault_for, HaveEndedBelow, IsFirstUnended, IsMemoryOrGone, IsSettleFault, IsSettledAlone, IsSettledFrom, IsUnsettledFault};
 
 use crate::collector::Collector;
 use crate::faults::{SettleFault, UnsettledFault};
@@ -31,7 +31,7 @@ fn first_unended(threads: u32, intake: &Intake) -> Option<ThreadId>
 
 // What settling answers for what went wrong in the run.
 fn settle_fault(fault: RunFault) -> SettleFault
-    ensures { result ≡ told fault }
+    ensures { result ≡ fault_for fault }
 {
     match fault {
         RunFault::Memory => SettleFault::Memory,

@@ -7,8 +7,8 @@ use Rattle.std.specs.Prelude.{slice_get}
 use Rattle.gl_event.specs.Bounds.{Bounds}
 use Rattle.gl_event.proofs.Depths.{slice_get_last}
 use Rattle.gl_engine.specs.Collecting.{Collecting, IsOpened, Pulling, fresh_input, lanes_of}
-use Rattle.gl_engine.specs.Recording.{Closed, Recording, IsFresh}
-use Rattle.gl_engine_tests.specs.Sessions.{Owner, left_by, owner_of, AreOursOf}
+use Rattle.gl_engine.specs.Recording.{Closed, Identity, Recording, IsFresh, identity_of, left_by}
+use Rattle.gl_engine_tests.specs.Sessions.{AreOursOf}
 
 same_some : {X : Type 0} (x y : X) → Some x ≡ Some y → x ≡ y
 same_some x y h = cc
@@ -58,13 +58,13 @@ lane_at (r ∷ recorders) zero q here = ap (λ (x : Recording). Some x.lane) (sa
 lane_at (r ∷ recorders) (suc at) q here = lane_at recorders at q here
 
 -- the receipts that the recorders of a session leave behind, in their order
-pub all_ours : (session : ℕ) (limits : Bounds) (recorders : List Recording) (c : Collecting) (receipts : List Closed) → IsOpened session limits recorders c → map left_by receipts ≡ map owner_of recorders → AreOursOf c receipts
+pub all_ours : (session : ℕ) (limits : Bounds) (recorders : List Recording) (c : Collecting) (receipts : List Closed) → IsOpened session limits recorders c → map left_by receipts ≡ map identity_of recorders → AreOursOf c receipts
 all_ours session limits recorders c receipts opened same at r here own lane found =
-    let other = alike_at left_by owner_of receipts recorders same at r here in
+    let other = alike_at left_by identity_of receipts recorders same at r here in
     let q = other.0 in
     let fresh : IsFresh session limits at q = opened.fresh at q other.1 in
-    let thread : r.thread ≡ at = ap (λ (o : Owner). o.thread) other.2 ∙ ap (λ (x : Recording). x.thread) fresh in
+    let thread : r.thread ≡ at = ap (λ (o : Identity). o.thread) other.2 ∙ ap (λ (x : Recording). x.thread) fresh in
     let lanes = ap (λ (x : Collecting). map (λ (input : Pulling). input.lane) x.inputs) opened.collects in
     let its : Some lane ≡ Some q.lane = sym found ∙ ap (slice_get (lanes_of c)) thread ∙ ap (λ ls. slice_get ls at) lanes ∙ lane_at recorders at q other.1 in
-    let bounds : r.limits ≡ limits = ap (λ (o : Owner). o.limits) other.2 ∙ ap (λ (x : Recording). x.limits) fresh in
-    (ap (λ (o : Owner). o.lane) other.2 ∙ sym (same_some lane q.lane its), bounds ∙ sym (ap (λ (x : Collecting). x.limits) opened.collects))
+    let bounds : r.limits ≡ limits = ap (λ (o : Identity). o.limits) other.2 ∙ ap (λ (x : Recording). x.limits) fresh in
+    (ap (λ (o : Identity). o.lane) other.2 ∙ sym (same_some lane q.lane its), bounds ∙ sym (ap (λ (x : Collecting). x.limits) opened.collects))

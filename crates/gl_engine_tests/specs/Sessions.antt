@@ -3,22 +3,9 @@ use Rattle.std.specs.Prelude.{◌≡◌, ℕ, Bool, true, List, map, Some, None,
 use Rattle.gl_event.specs.Bounds.{Bounds}
 use Rattle.gl_lane.specs.Lanes.{LaneId}
 use Rattle.gl_shards.specs.Feeds.{AllSent, Receiving}
-use Rattle.gl_engine.specs.Recording.{Closed, Recording}
+use Rattle.gl_engine.specs.Recording.{Closed}
 use Rattle.gl_engine.specs.Collecting.{Collecting, lanes_of}
 use Rattle.gl_engine.specs.Gathering.{Gathering, AreOurs}
-
--- what a recorder and its receipt have in common
-pub record Owner : Type 0 where
-  pub session : ℕ
-  pub thread : ℕ
-  pub limits : Bounds
-  pub lane : LaneId
-
-abbrev pub owner_of : Recording → Owner
-owner_of r = record { session = r.session; thread = r.thread; limits = r.limits; lane = r.lane }
-
-abbrev pub left_by : Closed → Owner
-left_by r = record { session = r.session; thread = r.thread; limits = r.limits; lane = r.lane }
 
 -- the receipt is that of the thread's recorder in a session of this number, limits and lanes, or another session's
 abbrev pub IsOurs : ℕ → Bounds → List LaneId → Closed → Type 0

@@ -1,6 +1,7 @@
 //! Threads that record their lists and close.
 ghost use Rattle.std.specs.Prelude.{◌≡◌, [], ◌∷◌, ◌++◌, length, map, IfSome};
-ghost use Rattle.gl_engine_tests.specs.Sessions.{left_by, owner_of, AreOursOf};
+ghost use Rattle.gl_engine.specs.Recording.{identity_of, left_by};
+ghost use Rattle.gl_engine_tests.specs.Sessions.{AreOursOf};
 
 use gl_engine::{Collector, Receipt, Recorder, open};
 use gl_event::Limits;
@@ -9,7 +10,7 @@ use std::alloc::Global;
 
 // Records the events and closes.
 fn close_one(recorder: Recorder, events: &[Op]) -> Option<Receipt>
-    ensures { IfSome result (λ receipt. left_by receipt ≡ owner_of recorder) }
+    ensures { IfSome result (λ receipt. left_by receipt ≡ identity_of recorder) }
 {
     let mut recorder = recorder;
     for event in events {
@@ -26,7 +27,7 @@ fn close_one(recorder: Recorder, events: &[Op]) -> Option<Receipt>
 // Records the next list, closes, and keeps the receipt.
 fn close_next(receipts: &mut Vec<Receipt>, recorder: Recorder, lists: &[&[Op]]) -> Option<()>
     ensures { IfSome result (λ _. map left_by receipts.new.items
-        ≡ map left_by receipts.old.items ++ owner_of recorder ∷ []) }
+        ≡ map left_by receipts.old.items ++ identity_of recorder ∷ []) }
 {
     let events = lists.get(receipts.len())?;
     let receipt = close_one(recorder, *events)?;
@@ -39,7 +40,7 @@ fn close_next(receipts: &mut Vec<Receipt>, recorder: Recorder, lists: &[&[Op]]) 
 // Each recorder records its list and closes.
 fn close_all(alloc: Global, recorders: Vec<Recorder>, lists: &[&[Op]]) -> Option<Vec<Receipt>>
     ensures { IfSome result
-        (λ receipts. map left_by receipts.items ≡ map owner_of recorders.items) }
+        (λ receipts. map left_by receipts.items ≡ map identity_of recorders.items) }
 {
     let mut receipts = Vec::new(alloc);
     for recorder in recorders {

@@ -14,10 +14,10 @@ use Rattle.gl_std.specs.declared.faults.LinesFault.{LinesFault}
 use Rattle.gl_std.specs.declared.stream.Item.{Item}
 use Rattle.gl_std.specs.declared.stream.Item.TheVariants.{Event as Told, Skipped, Stray, End}
 use Rattle.gl_std.specs.declared.trace.Trace.{Trace}
-use Rattle.gl_engine.specs.Recording.{Recording, Closed, next_note, recorded, recorded_whole, with_pushed}
+use Rattle.gl_engine.specs.Recording.{Recording, Closed, next_note, recorded, recorded_whole, with_pushed, Identity, left_by, identity_of}
 use Rattle.gl_world.proofs.Lists.{same_some, get_in, get_set_same, get_set_other}
 use Rattle.gl_live.specs.bodies.Padded.{padded}
-use Rattle.gl_live.specs.bodies.Rosters.{Identity, Roster, left_by, identity_of, IsReceiptOf, IsOnRoster}
+use Rattle.gl_live.specs.bodies.Rosters.{Roster, IsReceiptOf, IsOnRoster}
 use Rattle.gl_live.specs.bodies.Streams.{AreRecorded, KeepUp, HaveKeptUp, HasTaken, IsOfThreads, Stops, StopsAfter}
 use Rattle.gl_live.proofs.Rostered.{recorded_more}
 

@@ -7,9 +7,9 @@ use Rattle.gl_intake.specs.Stream.{events_of}
 use Rattle.gl_intake.proofs.Streams.{events_more, events_ended}
 use Rattle.std.specs.Prelude.{IfSome}
 use Rattle.std.proofs.lemmas.List.Elements.{All-append}
-use Rattle.gl_live.specs.bodies.Rosters.{Identity, Roster, roster_of, identity_of, left_by, IsOnRoster, IsRecorderOf, IsReceiptOf}
+use Rattle.gl_live.specs.bodies.Rosters.{Roster, roster_of, IsOnRoster, IsRecorderOf, IsReceiptOf}
 use Rattle.gl_engine.specs.Collecting.{Collecting}
-use Rattle.gl_engine.specs.Recording.{Recording, Closed, recorded, recorded_whole, with_pushed, next_note, last_note, closed_of}
+use Rattle.gl_engine.specs.Recording.{Recording, Closed, recorded, recorded_whole, with_pushed, next_note, last_note, closed_of, Identity, identity_of, left_by}
 
 -- ---- one recorder
 

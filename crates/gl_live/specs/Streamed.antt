@@ -41,10 +41,10 @@ FailsInTime old new items (Err (Text fault)) = Unit {0}
 FailsInTime old new items (Err (Session fault)) = (new ≡ old) ⊎ IsDone items
 
 -- the report of all that was told, with these contents, or why there is none
-abbrev pub IsReportOf : Contents → Asked → Stream → Trace → Result Report StreamFault → Type 0
-IsReportOf contents asked items told (Ok report) =
+abbrev pub IsReportOfTold : Contents → Asked → Stream → Trace → Result Report StreamFault → Type 0
+IsReportOfTold contents asked items told (Ok report) =
     IsDone items × IsReportWith contents asked (edges told.lists) told.lists report
-IsReportOf contents asked items told (Err fault) = IsStreamFault items told fault
+IsReportOfTold contents asked items told (Err fault) = IsStreamFault items told fault
 
 -- the reads gave a text, and the items told a trace of it, of which this is the report
 pub record Becomes (contents : Contents) (asked : Asked) (limits : Bounds) (turns : ℕ)
@@ -52,4 +52,4 @@ pub record Becomes (contents : Contents) (asked : Asked) (limits : Bounds) (turn
   pub text : List ℕ
   pub told : Trace
   pub tells : HasTold limits turns input items text told
-  pub reports : IsReportOf contents asked items told result
+  pub reports : IsReportOfTold contents asked items told result

@@ -5,9 +5,9 @@ ghost use Rattle.std.specs.Vec.{vec_len, vec_capacity};
 ghost use Rattle.gl_event.specs.Lawful.{lists_of};
 ghost use Rattle.gl_event.specs.declared.events.Event.{Event};
 ghost use Rattle.gl_engine.specs.Collecting.{Collecting};
-ghost use Rattle.gl_engine.specs.Recording.{recorded, recorded_whole};
+ghost use Rattle.gl_engine.specs.Recording.{recorded, recorded_whole, identity_of, left_by};
 ghost use Rattle.gl_live.specs.bodies.Workloads.{HasRoom, IsWorkloadOf};
-ghost use Rattle.gl_live.specs.bodies.Rosters.{Roster, roster_of, identity_of, left_by, IsRecorderOf, IsReceiptOf};
+ghost use Rattle.gl_live.specs.bodies.Rosters.{Roster, roster_of, IsRecorderOf, IsReceiptOf};
 
 use crate::start_gate::StartGate;
 use gl_engine::preallocated::keep;

@@ -9,7 +9,7 @@ use Rattle.gl_edges.proofs.Membership.{contains_here, contains_later, contains_c
 use Rattle.gl_shards.specs.declared.rule.Message.{Message}
 use Rattle.gl_shards.specs.declared.rule.Message.TheVariants.{Ended}
 use Rattle.gl_shards.specs.declared.rule.Traffic.{Traffic}
-use Rattle.gl_shards.specs.Rule.{traffic, EndsLast, HasEnded, Fits, IsInOrder, IsReceived}
+use Rattle.gl_shards.specs.Rule.{traffic, EndsLast, HasEndMark, Fits, IsInOrder, IsReceived}
 
 -- ---- end marks
 
@@ -23,15 +23,15 @@ rest_ends_last : (message : Message) (messages : List Message) → EndsLast (mes
 rest_ends_last message messages last before after is = last (message ∷ before) after (ap (λ rest. message ∷ rest) is)
 
 -- a message more, where no end mark was sent
-one_more : (messages : List Message) (message : Message) → ¬ HasEnded messages → EndsLast (messages ++ message ∷ [])
+one_more : (messages : List Message) (message : Message) → ¬ HasEndMark messages → EndsLast (messages ++ message ∷ [])
 one_more [] message none [] after is = cc
 one_more [] message none (first ∷ before) after is = nothing_ends before after (cc)
-one_more (first ∷ messages) message none [] after is = let same : Ended ≡ first = cc in absurd (none (subst (λ m. HasEnded (m ∷ messages)) same (contains_here Ended messages)))
+one_more (first ∷ messages) message none [] after is = let same : Ended ≡ first = cc in absurd (none (subst (λ m. HasEndMark (m ∷ messages)) same (contains_here Ended messages)))
 one_more (first ∷ messages) message none (other ∷ before) after is =
     one_more messages message (λ there. none (contains_later first Ended messages there)) before after (cc)
 
 -- nothing comes after messages with an end mark
-none_after : (messages after : List Message) → EndsLast (messages ++ after) → HasEnded messages → after ≡ []
+none_after : (messages after : List Message) → EndsLast (messages ++ after) → HasEndMark messages → after ≡ []
 none_after [] after last ended = absurd (contains_none Ended ended)
 none_after (first ∷ messages) after last ended =
     elim (contains_cases first Ended messages ended) [
@@ -76,7 +76,7 @@ begins = record { sender = 0; receiver = 0; sent = []; received = []; whole = re
     only (suc pass) known at = absurd (some-ne-none known (sym at))
 
 -- the sender sends a message
-pub sends : (room pass : ℕ) (known : Traffic) (message : Message) → known.sends ≡ true → ¬ HasEnded known.sent
+pub sends : (room pass : ℕ) (known : Traffic) (message : Message) → known.sends ≡ true → ¬ HasEndMark known.sent
     → Pushes IsInOrder room pass known message (λ new. new ≡ traffic known.sends known.receives (known.sent ++ message ∷ []) known.received)
 sends room pass known message may none messages passes fits kept at =
     let new : Traffic = traffic known.sends known.receives (known.sent ++ message ∷ []) known.received in
@@ -89,7 +89,7 @@ sends room pass known message may none messages passes fits kept at =
         sent = sent;
         received = kept.received;
         whole = ap (λ xs. xs ++ message ∷ []) kept.whole ∙ append_assoc kept.received messages (message ∷ []);
-        ends_last = one_more kept.sent message (subst (λ xs. ¬ HasEnded xs) (mine.as_sender may).1 none);
+        ends_last = one_more kept.sent message (subst (λ xs. ¬ HasEndMark xs) (mine.as_sender may).1 none);
         each =
             all_set (Fits kept.sender kept.receiver sent kept.received) passes pass new
             (record { as_sender = λ _. ((mine.as_sender may).0, ap (λ xs. xs ++ message ∷ []) (mine.as_sender may).1); as_receiver = mine.as_receiver })
@@ -207,6 +207,6 @@ learns pass known may_send may_receive messages passes kept at =
       whole = whole;
       all =
           λ ended.
-          let none = none_after kept.received messages (subst EndsLast kept.whole kept.ends_last) (subst HasEnded received ended) in
+          let none = none_after kept.received messages (subst EndsLast kept.whole kept.ends_last) (subst HasEndMark received ended) in
           whole ∙ ap (λ rest. known.received ++ rest) none ∙ append-nil known.received;
     }

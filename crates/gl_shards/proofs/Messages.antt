@@ -9,7 +9,7 @@ use Rattle.gl_edges.proofs.Membership.{contains_here, contains_cases, contains_n
 use Rattle.gl_shards.specs.declared.rule.Message.{Message}
 use Rattle.gl_shards.specs.declared.rule.Message.TheVariants.{Pair, Ended}
 use Rattle.gl_shards.specs.declared.rule.Traffic.{Traffic}
-use Rattle.gl_shards.specs.Rule.{pairs_in, traffic, and_sent, HasEnded, IsReceived}
+use Rattle.gl_shards.specs.Rule.{pairs_in, traffic, and_sent, HasEndMark, IsReceived}
 
 -- the edges of messages one after the other
 pub pairs_appended : (xs ys : List Message) → pairs_in (xs ++ ys) ≡ pairs_in xs ++ pairs_in ys
@@ -34,7 +34,7 @@ pub sent_end : (old new : Traffic) → new ≡ and_sent old Ended → pairs_in n
 sent_end old new is = ap (λ (known : Traffic). pairs_in known.sent) is ∙ end_more old.sent
 
 -- an edge is no end mark
-pub still_open : (messages : List Message) (pair : Edge × Sample) → ¬ HasEnded messages → ¬ HasEnded (messages ++ Pair pair ∷ [])
+pub still_open : (messages : List Message) (pair : Edge × Sample) → ¬ HasEndMark messages → ¬ HasEndMark (messages ++ Pair pair ∷ [])
 still_open messages pair none ended =
     elim (Contains-append_cases messages (Pair pair ∷ []) Ended ended) [
       | inl before ↦ none before
@@ -46,7 +46,7 @@ still_open messages pair none ended =
     ]
 
 -- the end mark came
-pub now_ended : (messages : List Message) → HasEnded (messages ++ Ended ∷ [])
+pub now_ended : (messages : List Message) → HasEndMark (messages ++ Ended ∷ [])
 now_ended messages = Contains-append_right messages (Ended ∷ []) Ended (contains_here Ended [])
 
 -- the edges received begin those sent
@@ -61,7 +61,7 @@ module _ (sent received : List Message) (known : Traffic) (is : known ≡ traffi
       subst (λ (t : Traffic). IsPrefix (pairs_in t.received) (pairs_in t.sent)) is (received_begins known.sent known.received learned.0 learned.1)
 
   -- and is all of it where it has the end mark
-  pub all_of_sent : HasEnded received → received ≡ sent
+  pub all_of_sent : HasEndMark received → received ≡ sent
   all_of_sent ended =
-      let whole : HasEnded known.received → known.sent ≡ known.received = learned.1.all in
-      sym (subst (λ (t : Traffic). HasEnded t.received → t.sent ≡ t.received) is whole ended)
+      let whole : HasEndMark known.received → known.sent ≡ known.received = learned.1.all in
+      sym (subst (λ (t : Traffic). HasEndMark t.received → t.sent ≡ t.received) is whole ended)

@@ -12,7 +12,7 @@ use Rattle.gl_shards.specs.declared.rule.Message.TheVariants.{Pair, Ended}
 use Rattle.gl_shards.specs.declared.rule.Traffic.{Traffic}
 use Rattle.gl_shards.specs.Ends.{Channel, IsFresh, IsServing, HasServed}
 use Rattle.gl_shards.specs.Feeds.{feed_of, received_by}
-use Rattle.gl_shards.specs.Rule.{traffic, and_got, pairs_in, HasEnded}
+use Rattle.gl_shards.specs.Rule.{traffic, and_got, pairs_in, HasEndMark}
 use Rattle.gl_edges.proofs.Filling.{once_of_none}
 use Rattle.gl_shards.proofs.Messages.{pair_more, end_more, still_open, now_ended}
 
@@ -28,7 +28,7 @@ module _ {Q M L A B : Type 0} (receiver : Receiving (Channel Q M L A) B) where
       record {
         seat = fresh.seat;
         receives = ap (λ known. known.receives) fresh.knows;
-        not_ended = λ ended. contains_none Ended (subst HasEnded none ended);
+        not_ended = λ ended. contains_none Ended (subst HasEndMark none ended);
         filled = empty ∙ sym once_of_none ∙ ap (λ messages. once (pairs_in messages)) (sym none);
       }
 
@@ -46,7 +46,7 @@ module _ {Q M L A B : Type 0} (receiver : Receiving (Channel Q M L A) B) where
       record {
         seat = seat;
         receives = ap (λ known. known.receives) got ∙ serving.receives;
-        not_ended = λ ended. still_open (view old).received pair serving.not_ended (subst HasEnded received ended);
+        not_ended = λ ended. still_open (view old).received pair serving.not_ended (subst HasEndMark received ended);
         filled = subst (λ all. IfSome more (λ filled. filled ≡ once all)) (sym pairs) (filled (received_by old) serving.filled);
       }
 
@@ -63,7 +63,7 @@ module _ {Q M L A B : Type 0} (receiver : Receiving (Channel Q M L A) B) where
       record {
         free = seat.2;
         receives = ap (λ known. known.receives) got ∙ serving.receives;
-        ended = λ _. subst HasEnded (sym received) (now_ended (view old).received);
+        ended = λ _. subst HasEndMark (sym received) (now_ended (view old).received);
         not_ended = λ cut. absurd (cc);
         filled = subst (λ all. IfSome table (λ filled. filled ≡ once all)) (sym pairs) serving.filled;
       }

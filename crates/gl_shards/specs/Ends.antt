@@ -14,7 +14,7 @@ use Rattle.gl_edges.specs.declared.edge.Sample.{Sample}
 use Rattle.gl_shards.specs.declared.rule.Message.{Message}
 use Rattle.gl_shards.specs.declared.rule.Traffic.{Traffic}
 use Rattle.gl_shards.specs.Feeds.{received_by}
-use Rattle.gl_shards.specs.Rule.{traffic, HasEnded}
+use Rattle.gl_shards.specs.Rule.{traffic, HasEndMark}
 
 -- the channel of a feed
 abbrev pub Channel : Type 0 → Type 0 → Type 0 → Type 0 → Type 0
@@ -31,13 +31,13 @@ module _ {Q M L A B : Type 0} where
   pub record HasSent (sender : Sending (Channel Q M L A) B)
       (pass : Pass Message Traffic) : Type 0 where
     pub is_sender : IsSender sender pass
-    pub ended : HasEnded (view pass).sent
+    pub ended : HasEndMark (view pass).sent
 
   -- the same, and the end mark wasn't sent yet
   pub record IsOpen (sender : Sending (Channel Q M L A) B)
       (pass : Pass Message Traffic) : Type 0 where
     pub is_sender : IsSender sender pass
-    pub not_ended : ¬ HasEnded (view pass).sent
+    pub not_ended : ¬ HasEndMark (view pass).sent
 
   -- a pass of this receiver's channel, which receives, and has received nothing yet
   pub record IsFresh (receiver : Receiving (Channel Q M L A) B)
@@ -50,7 +50,7 @@ module _ {Q M L A B : Type 0} where
       (table : Option (List (Edge × Sample))) : Type 0 where
     pub seat : IsSeatAt (receives_on receiver) pass
     pub receives : (view pass).receives ≡ true
-    pub not_ended : ¬ HasEnded (view pass).received
+    pub not_ended : ¬ HasEndMark (view pass).received
     pub filled : IfSome table (λ filled. filled ≡ once (received_by pass))
 
 -- a worker's pass when it is done, with what it has made of the edges
@@ -60,7 +60,7 @@ pub record HasServed (pass : Pass Message Traffic) (cut : Bool)
   pub free : pass.me.1 ≡ []
   pub receives : (view pass).receives ≡ true
   -- receiving was cut off exactly where the end mark wasn't received
-  pub ended : cut ≡ false → HasEnded (view pass).received
-  pub not_ended : cut ≡ true → ¬ HasEnded (view pass).received
+  pub ended : cut ≡ false → HasEndMark (view pass).received
+  pub not_ended : cut ≡ true → ¬ HasEndMark (view pass).received
   -- the table, if there was memory for it, has what was received
   pub filled : IfSome table (λ filled. filled ≡ once (received_by pass))

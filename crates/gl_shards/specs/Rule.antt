@@ -19,8 +19,8 @@ abbrev pub EndsLast : List Message → Type 0
 EndsLast messages = (before after : List Message) → messages ≡ before ++ Ended ∷ after → after ≡ []
 
 -- the end mark is among these messages
-abbrev pub HasEnded : List Message → Type 0
-HasEnded messages = Contains messages Ended
+abbrev pub HasEndMark : List Message → Type 0
+HasEndMark messages = Contains messages Ended
 
 abbrev pub traffic : Bool → Bool → List Message → List Message → Traffic
 traffic sends receives sent received =
@@ -61,4 +61,4 @@ pub record IsInOrder (messages : List Message) (passes : List Traffic) : Type 0 
 -- what who has both passes learns: what was received begins what was sent, and is all of it where the end mark was received
 pub record IsReceived (sent received messages : List Message) : Type 0 where
   pub whole : sent ≡ received ++ messages
-  pub all : HasEnded received → sent ≡ received
+  pub all : HasEndMark received → sent ≡ received

@@ -3,7 +3,7 @@ ghost use Rattle.std.specs.Prelude.{◌≡◌, ◌≤◌, true, [], ◌∷◌, �
 ghost use Rattle.crossbeam_channel.specs.Claims.{view, IsSeatAt};
 ghost use Rattle.crossbeam_channel.specs.Ends.{sends_on};
 ghost use Rattle.gl_event.specs.declared.limits.TheConstants.{MAX_RING};
-ghost use Rattle.gl_shards.specs.Rule.{and_sent, HasEnded};
+ghost use Rattle.gl_shards.specs.Rule.{and_sent, HasEndMark};
 
 use crate::rule::{InOrder, Message, Roles, Sends, Traffic};
 use crate::waiting::{LOOKS, pause};
@@ -123,7 +123,7 @@ fn send_message<R: Wait>(
 ) -> Result<(), Message>
     requires seat { IsSeatAt (sends_on sender.now) pass.old }
     requires sends { (view pass.old).sends ≡ true }
-    requires not_ended { ¬ HasEnded (view pass.old).sent }
+    requires not_ended { ¬ HasEndMark (view pass.old).sent }
     ensures seat { IsSeatAt (sends_on sender.now) pass.new }
     ensures sent { MatchResult result (λ _. view pass.new ≡ and_sent (view pass.old) message)
         (λ back. (back ≡ message) × (view pass.new ≡ view pass.old)) }

@@ -17,7 +17,7 @@ use Rattle.gl_shards.specs.Shards.{shard_of}
 use Rattle.gl_intake.specs.Stream.{note_refusal, accepted_as}
 use Rattle.gl_intake.specs.declared.notes.Refused.{Refused as Reason}
 use Rattle.gl_world.specs.Dispatch.{Dispatch, Shard, Handled, wait, has_place, has_work, ship_edge, work_edge, ship_to, ship_pair, work_on, ship_turn, work_turn}
-use Rattle.gl_world.specs.Machine.{Lane, State, Turn, Moved, rest, idle, use_wish, push_note, taken_of, has_closed, has_room, take_judged, take_wish, take_turn, end_turn, turned, pull_note, again_note, answer_again, step}
+use Rattle.gl_world.specs.Machine.{Lane, State, Turn, Moved, rest, idle, use_wish, push_note, taken_of, has_closed, has_room, take_judged, take_wish, take_turn, end_turn, after_turn, pull_note, again_note, answer_again, step}
 use Rattle.gl_world.specs.Enabled.{MayTake, MayEnd, MayPull, MayOffer, MayShip, HasLane, IsEnabled, StepsWhereEnabled}
 use Rattle.gl_world.specs.declared.steps.Step.{Step}
 use Rattle.gl_world.specs.declared.steps.Step.TheVariants.{Take, End, Pull, Again, Ship, Work}
@@ -102,7 +102,7 @@ module _ (s : State) where
 
   -- a turn that leaves the lane as it was leaves the state
   turn_fits : (thread : ℕ) (lane : Lane) (Enabled : Type 0) (turn : Turn) → slice_get s.lanes thread ≡ Some lane → Fits Enabled turn.did turn.lane lane
-      → Fits Enabled (turned s thread turn).did (turned s thread turn).after s
+      → Fits Enabled (after_turn s thread turn).did (after_turn s thread turn).after s
   turn_fits thread lane Enabled turn at fits = record {
     enabled = fits.enabled;
     moves = fits.moves;
@@ -197,10 +197,10 @@ handled_fits s Enabled turn fits = record {
 step_fits : (s : State) (x : Step) → Fits (IsEnabled s x) (step s x).did (step s x).after s
 unfolding step
 step_fits s (Take thread) =
-    on s thread (MayTake s.limits thread) (λ lane. turned s thread (take_turn s.limits thread lane))
+    on s thread (MayTake s.limits thread) (λ lane. after_turn s thread (take_turn s.limits thread lane))
     (λ lane at. turn_fits s thread lane (MayTake s.limits thread lane) (take_turn s.limits thread lane) at (take_fits s.limits thread lane)) (slice_get s.lanes thread) refl
 step_fits s (End thread) =
-    on s thread (MayEnd s.limits thread) (λ lane. turned s thread (end_turn s.limits thread lane))
+    on s thread (MayEnd s.limits thread) (λ lane. after_turn s thread (end_turn s.limits thread lane))
     (λ lane at. turn_fits s thread lane (MayEnd s.limits thread lane) (end_turn s.limits thread lane) at (end_fits s.limits thread lane)) (slice_get s.lanes thread) refl
 step_fits s (Pull thread) =
     on s thread MayPull (λ lane. pull_note s thread lane (slice_get lane.pushed lane.popped)) (λ lane at. pulled s thread lane (slice_get lane.pushed lane.popped) refl) (slice_get s.lanes thread) refl

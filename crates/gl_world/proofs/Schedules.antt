@@ -13,7 +13,7 @@ use Rattle.gl_recorder.specs.Taking.{event_note, end_note}
 use Rattle.gl_intake.specs.Stream.{events_of, note_refusal, accepted_as}
 use Rattle.gl_intake.specs.declared.notes.Accepted.{Accepted}
 use Rattle.gl_intake.specs.declared.notes.Refused.{Refused as Reason}
-use Rattle.gl_world.specs.Machine.{Lane, State, rest, start, use_wish, push_note, taken_of, has_closed, has_room, take_judged, take_wish, take_turn, end_turn, Moved, idle, turned, pull_note, again_note, step, run, answer_again, IsPrefixOf, KeepsOrder}
+use Rattle.gl_world.specs.Machine.{Lane, State, rest, start, use_wish, push_note, taken_of, has_closed, has_room, take_judged, take_wish, take_turn, end_turn, Moved, idle, after_turn, pull_note, again_note, step, run, answer_again, IsPrefixOf, KeepsOrder}
 use Rattle.gl_world.specs.Keeping.{IsLaneOf, IsSound}
 use Rattle.gl_world.specs.declared.steps.Step.{Step}
 use Rattle.gl_world.specs.declared.steps.Step.TheVariants.{Take, End, Pull, Again, Ship, Work}
@@ -87,11 +87,11 @@ module _ (s : State) (sound : IsSound s) where
   pub sound_step : (x : Step) → IsSound (step s x).after
   unfolding step
   sound_step (Take thread) =
-      on thread (λ lane. turned s thread (take_turn s.limits thread lane))
+      on thread (λ lane. after_turn s thread (take_turn s.limits thread lane))
       (λ lane at. sound_turned s sound thread (take_turn s.limits thread lane).lane (after_take s.limits thread s.stream lane (sound.lanes thread lane at) (known_at thread lane at)))
       (slice_get s.lanes thread) refl
   sound_step (End thread) =
-      on thread (λ lane. turned s thread (end_turn s.limits thread lane))
+      on thread (λ lane. after_turn s thread (end_turn s.limits thread lane))
       (λ lane at. sound_turned s sound thread (end_turn s.limits thread lane).lane (after_end s.limits thread s.stream lane (sound.lanes thread lane at) (known_at thread lane at)))
       (slice_get s.lanes thread) refl
   sound_step (Pull thread) =

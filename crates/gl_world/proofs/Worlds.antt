@@ -15,9 +15,9 @@ use Rattle.gl_intake.proofs.Next.{none_of_next}
 use Rattle.gl_edges.specs.declared.edge.Edge.{Edge}
 use Rattle.gl_edges.specs.declared.edge.Sample.{Sample}
 use Rattle.gl_world.specs.Dispatch.{Dispatch, Handled, fresh_dispatch, ship_turn, work_turn}
-use Rattle.gl_world.specs.Machine.{Lane, State, Turn, Moved, fresh_lane, take_turn, end_turn, pop_note, turned, handled, idle, pull_note, again_note, answer_again, edges_due, add_edges, taken_of, step, run}
+use Rattle.gl_world.specs.Machine.{Lane, State, Turn, Moved, fresh_lane, take_turn, end_turn, pop_note, after_turn, handled, idle, pull_note, again_note, answer_again, edges_due, add_edges, taken_of, step, run}
 use Rattle.gl_world.specs.Enabled.{grows}
-use Rattle.gl_world.specs.Keeping.{Keeper, AreKeepers, IsLaneOf, IsFrontOf, IsSound, IsWorld, lanes_of}
+use Rattle.gl_world.specs.Keeping.{Keeper, AreKeepers, IsLaneOf, IsFrontOf, IsSound, IsWorld, lanes_kept}
 use Rattle.gl_world.specs.declared.steps.Step.{Step}
 use Rattle.gl_world.specs.declared.steps.Step.TheVariants.{Take, End, Pull, Again, Ship, Work}
 use Rattle.gl_world.specs.declared.steps.Did.{Did}
@@ -28,7 +28,7 @@ use Rattle.gl_world.proofs.Sound.{sound_start, front_is_next, other_isnt_next, f
 use Rattle.gl_world.proofs.Schedules.{sound_step, sound_run, run_push}
 
 abbrev pub state_of : Bounds → Dispatch → List Keeper → List Note → State
-state_of limits dispatch keepers stream = record { limits = limits; lanes = lanes_of keepers; stream = stream; dispatch = dispatch }
+state_of limits dispatch keepers stream = record { limits = limits; lanes = lanes_kept keepers; stream = stream; dispatch = dispatch }
 
 -- ---- one step of a state, case by case
 
@@ -50,11 +50,11 @@ module _ (s : State) (thread : ℕ) where
   again_unknown place strange = rw (slice_get_past s.lanes thread strange)
 
   module _ (lane : Lane) (at : slice_get s.lanes thread ≡ Some lane) where
-    take_known : step s (Take thread) ≡ turned s thread (take_turn s.limits thread lane)
+    take_known : step s (Take thread) ≡ after_turn s thread (take_turn s.limits thread lane)
     unfolding step
     take_known = rw at
 
-    end_known : step s (End thread) ≡ turned s thread (end_turn s.limits thread lane)
+    end_known : step s (End thread) ≡ after_turn s thread (end_turn s.limits thread lane)
     unfolding step
     end_known = rw at
 
@@ -120,7 +120,7 @@ module _ (limits : Bounds) (dispatch : Dispatch) (keepers : List Keeper) (stream
   part_at : slice_get keepers i ≡ Some was
   part_at = get_at keepers i was within here
 
-  pub lane_at : slice_get (lanes_of keepers) i ≡ Some was.lane
+  pub lane_at : slice_get (lanes_kept keepers) i ≡ Some was.lane
   lane_at = slice_get-map (λ k. k.lane) keepers i ∙ ap (option_map (λ (k : Keeper). k.lane)) part_at
 
   -- the state has no other lane of this thread
@@ -156,7 +156,7 @@ module _ (limits : Bounds) (dispatch : Dispatch) (keepers : List Keeper) (stream
   }
 
   moved_as : (turn : Turn) (now : Keeper) (did : Did) → now.lane ≡ turn.lane → did ≡ turn.did
-      → (let m : Moved = record { after = state_of limits dispatch (set keepers i now) stream; did = did } in turned (state_of limits dispatch keepers stream) i turn ≡ m)
+      → (let m : Moved = record { after = state_of limits dispatch (set keepers i now) stream; did = did } in after_turn (state_of limits dispatch keepers stream) i turn ≡ m)
   moved_as turn now did lane_is did_is = rw (map-set (λ (k : Keeper). k.lane) keepers i now, lane_is, did_is)
 
   pub take_moved : (now : Keeper) (did : Did) → now ≡ record was { lane = (take_turn was.limits was.thread was.lane).lane } → did ≡ (take_turn was.limits was.thread was.lane).did
@@ -306,10 +306,10 @@ map_push : {X Y : Type 0} (f : X → Y) (xs : List X) (x : X) → map f (xs ++ x
 map_push f [] x = refl
 map_push f (y ∷ xs) x = ap (λ ys. f y ∷ ys) (map_push f xs x)
 
-pub lanes_push : {X : Type 0} (f : X → Lane) (keepers : List Keeper) (k : Keeper) (lists : List X) (x : X) → lanes_of keepers ≡ map f lists → k.lane ≡ f x
-    → lanes_of (keepers ++ k ∷ []) ≡ map f (lists ++ x ∷ [])
+pub lanes_push : {X : Type 0} (f : X → Lane) (keepers : List Keeper) (k : Keeper) (lists : List X) (x : X) → lanes_kept keepers ≡ map f lists → k.lane ≡ f x
+    → lanes_kept (keepers ++ k ∷ []) ≡ map f (lists ++ x ∷ [])
 lanes_push f keepers k lists x so_far is =
-    let ends : lanes_of keepers ++ k.lane ∷ [] ≡ map f lists ++ f x ∷ [] = rw (so_far, is) in
+    let ends : lanes_kept keepers ++ k.lane ∷ [] ≡ map f lists ++ f x ∷ [] = rw (so_far, is) in
     map_push (λ (k : Keeper). k.lane) keepers k ∙ ends ∙ sym (map_push f lists x)
 
 pub fresh_lists : (lists : List (Vec Event Global)) → map fresh_lane (map (λ v. v.items) lists) ≡ map (λ v. fresh_lane v.items) lists
@@ -318,9 +318,9 @@ fresh_lists (v ∷ lists) = ap (λ ls. fresh_lane v.items ∷ ls) (fresh_lists l
 
 -- a new world
 pub world_new : (limits : Bounds) (shards : ℕ) (keepers : List Keeper) (lists : List (Vec Event Global)) → length lists ≡ limits.threads → AreKeepers limits keepers
-    → lanes_of keepers ≡ map (λ v. fresh_lane v.items) lists → AreWithinRange limits → IsWorld limits (fresh_dispatch shards) keepers [] limits
+    → lanes_kept keepers ≡ map (λ v. fresh_lane v.items) lists → AreWithinRange limits → IsWorld limits (fresh_dispatch shards) keepers [] limits
 world_new limits shards keepers lists count keeping lanes_are range =
-    let same : map fresh_lane (map (λ (v : Vec Event Global). v.items) lists) ≡ lanes_of keepers = fresh_lists lists ∙ sym lanes_are in
+    let same : map fresh_lane (map (λ (v : Vec Event Global). v.items) lists) ≡ lanes_kept keepers = fresh_lists lists ∙ sym lanes_are in
     record {
       sound = subst (λ (ls : List Lane). IsSound (let s : State = record { limits = limits; lanes = ls; stream = []; dispatch = fresh_dispatch shards } in s)) same
           (sound_start limits shards (map (λ (v : Vec Event Global). v.items) lists) (length-map lists (λ (v : Vec Event Global). v.items) ∙ count));
@@ -349,8 +349,8 @@ again_limits s lane place (Some note) = either_limits s (eqb place lane.popped) 
 
 step_limits : (s : State) (x : Step) → (step s x).after.limits ≡ s.limits
 unfolding step
-step_limits s (Take thread) = on_lane_limits s (λ lane. turned s thread (take_turn s.limits thread lane)) (slice_get s.lanes thread) (λ lane. refl)
-step_limits s (End thread) = on_lane_limits s (λ lane. turned s thread (end_turn s.limits thread lane)) (slice_get s.lanes thread) (λ lane. refl)
+step_limits s (Take thread) = on_lane_limits s (λ lane. after_turn s thread (take_turn s.limits thread lane)) (slice_get s.lanes thread) (λ lane. refl)
+step_limits s (End thread) = on_lane_limits s (λ lane. after_turn s thread (end_turn s.limits thread lane)) (slice_get s.lanes thread) (λ lane. refl)
 step_limits s (Pull thread) = on_lane_limits s (λ lane. pull_note s thread lane (slice_get lane.pushed lane.popped)) (slice_get s.lanes thread) (λ lane. pull_limits s thread lane (slice_get lane.pushed lane.popped))
 step_limits s (Again thread place) = on_lane_limits s (λ lane. again_note s lane place (slice_get lane.pushed place)) (slice_get s.lanes thread) (λ lane. again_limits s lane place (slice_get lane.pushed place))
 step_limits s Ship = refl
@@ -389,8 +389,8 @@ again_count s lane place (Some note) = either_count s (eqb place lane.popped) (a
 
 step_count : (s : State) (x : Step) → length (step s x).after.dispatch.shards ≡ length s.dispatch.shards
 unfolding step
-step_count s (Take thread) = on_lane_count s (λ lane. turned s thread (take_turn s.limits thread lane)) (slice_get s.lanes thread) (λ lane. refl)
-step_count s (End thread) = on_lane_count s (λ lane. turned s thread (end_turn s.limits thread lane)) (slice_get s.lanes thread) (λ lane. refl)
+step_count s (Take thread) = on_lane_count s (λ lane. after_turn s thread (take_turn s.limits thread lane)) (slice_get s.lanes thread) (λ lane. refl)
+step_count s (End thread) = on_lane_count s (λ lane. after_turn s thread (end_turn s.limits thread lane)) (slice_get s.lanes thread) (λ lane. refl)
 step_count s (Pull thread) = on_lane_count s (λ lane. pull_note s thread lane (slice_get lane.pushed lane.popped)) (slice_get s.lanes thread) (λ lane. pull_count s thread lane (slice_get lane.pushed lane.popped))
 step_count s (Again thread place) = on_lane_count s (λ lane. again_note s lane place (slice_get lane.pushed place)) (slice_get s.lanes thread) (λ lane. again_count s lane place (slice_get lane.pushed place))
 step_count s Ship = ship_keeps_shards s.limits s.dispatch

@@ -104,15 +104,15 @@ pub record AreKeepers (limits : Bounds) (keepers : List Keeper) : Type 0 where
       → keeper.limits ≡ limits
 
 -- the parts' lanes
-abbrev pub lanes_of : List Keeper → List Lane
-lanes_of keepers = map (λ keeper. keeper.lane) keepers
+abbrev pub lanes_kept : List Keeper → List Lane
+lanes_kept keepers = map (λ keeper. keeper.lane) keepers
 
 -- a world's parts, its collector's stream and its dispatch make a state that is as after some steps from a new world
 pub record IsWorld (limits : Bounds) (dispatch : Dispatch) (keepers : List Keeper)
     (stream : List Note) (collecting : Bounds) : Type 0 where
   pub sound : IsSound (record {
     limits = limits;
-    lanes = lanes_of keepers;
+    lanes = lanes_kept keepers;
     stream = stream;
     dispatch = dispatch;
   })

@@ -125,8 +125,8 @@ abbrev pub idle : State → Moved
 idle s = record { after = s; did = Nothing }
 
 -- a turn of the thread alone
-abbrev pub turned : State → ℕ → Turn → Moved
-turned s thread turn =
+abbrev pub after_turn : State → ℕ → Turn → Moved
+after_turn s thread turn =
     record { after = record s { lanes = slice_set s.lanes thread turn.lane }; did = turn.did }
 
 -- the edges that a body makes which stands at this place of what the thread took: those of its event, ascending
@@ -172,8 +172,10 @@ handled s turn = record { after = record s { dispatch = turn.dispatch }; did = t
 
 -- one step
 unfoldable pub step : State → Step → Moved
-step s (Take thread) = on_lane s thread (λ lane. turned s thread (take_turn s.limits thread lane))
-step s (End thread) = on_lane s thread (λ lane. turned s thread (end_turn s.limits thread lane))
+step s (Take thread) =
+    on_lane s thread (λ lane. after_turn s thread (take_turn s.limits thread lane))
+step s (End thread) =
+    on_lane s thread (λ lane. after_turn s thread (end_turn s.limits thread lane))
 step s (Pull thread) =
     on_lane s thread (λ lane. pull_note s thread lane (slice_get lane.pushed lane.popped))
 step s (Again thread place) =

@@ -8,7 +8,7 @@ ghost use Rattle.gl_world.specs.Dispatch.{Shard, table_of};
 ghost use Rattle.gl_world.specs.Enabled.{grows};
 ghost use Rattle.gl_world.specs.Headline.{collected_lists, IsReportOf};
 ghost use Rattle.gl_world.specs.Machine.{State, Lane, start, step, run, taken_of, taken_lists, fresh_lane, IsPrefixOf, IsDrained};
-ghost use Rattle.gl_world.specs.Keeping.{AreKeepers, lanes_of};
+ghost use Rattle.gl_world.specs.Keeping.{AreKeepers, lanes_kept};
 ghost use Rattle.gl_world.specs.declared.steps.Step.{Step};
 ghost use Rattle.gl_world.specs.declared.steps.Step.TheVariants.{Take, End, Pull, Again, Ship, Work};
 
@@ -37,13 +37,13 @@ pub struct World {
 
 impl Model for World {
     ghost use Rattle.gl_world.specs.Machine.{State};
-    ghost use Rattle.gl_world.specs.Keeping.{IsWorld, lanes_of};
+    ghost use Rattle.gl_world.specs.Keeping.{IsWorld, lanes_kept};
 
     ghost Value = { State };
 
     ghost view = { λ w. record {
       limits = w.limits;
-      lanes = lanes_of w.parts.items;
+      lanes = lanes_kept w.parts.items;
       stream = w.intake.stream;
       dispatch = w.dispatcher;
     } };
@@ -60,7 +60,7 @@ fn fresh_parts(
 ) -> Result<Vec<ThreadPart>, AllocError>
     requires { length wishes.items ≡ limits.now.threads }
     ensures lanes { IfOk result
-        (λ parts. lanes_of parts.items ≡ map (λ w. fresh_lane w.items) wishes.items) }
+        (λ parts. lanes_kept parts.items ≡ map (λ w. fresh_lane w.items) wishes.items) }
     ensures keepers { IfOk result (λ parts. AreKeepers limits.now parts.items) }
     ensures range { AreWithinRange limits.now }
 {

@@ -6,7 +6,7 @@ use Rattle.gl_findings.specs.declared.listing.Listing.TheVariants.{Cycles, Findi
 use Rattle.gl_options.specs.declared.form.Form.{Form}
 use Rattle.gl_options.specs.declared.form.Form.TheVariants.{Text, Json}
 use Rattle.gl_options.specs.declared.live_options.LiveOptions.{LiveOptions}
-use Rattle.gl_commands.specs.Sessions.{listing_of}
+use Rattle.gl_commands.specs.Sessions.{listing_asked}
 
 -- of a report that lists cycles, or findings, in this form: a text has no trim order
 abbrev pub contents_for : Listing → Form → Contents
@@ -17,4 +17,4 @@ contents_for Findings Json = only.Findings
 
 -- of the report that the options of a session ask for
 abbrev pub contents_of : LiveOptions → Contents
-contents_of options = contents_for (listing_of options) options.form
+contents_of options = contents_for (listing_asked options) options.form

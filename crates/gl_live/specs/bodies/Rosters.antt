@@ -6,22 +6,7 @@ use Rattle.gl_event.specs.declared.events.Event.{Event}
 use Rattle.gl_lane.specs.Lanes.{LaneId}
 use Rattle.gl_engine.specs.Collecting.{Collecting, lanes_of}
 use Rattle.gl_engine.specs.Gathering.{Gathering}
-use Rattle.gl_engine.specs.Recording.{Recording, Closed, recorded, recorded_whole}
-
--- who records: the session, the thread, the limits, and the lane
-pub record Identity : Type 0 where
-  pub session : ℕ
-  pub thread : ℕ
-  pub limits : Bounds
-  pub lane : LaneId
-
--- who the recorder is
-abbrev pub identity_of : Recording → Identity
-identity_of r = record { session = r.session; thread = r.thread; limits = r.limits; lane = r.lane }
-
--- whose the receipt is
-abbrev pub left_by : Closed → Identity
-left_by r = record { session = r.session; thread = r.thread; limits = r.limits; lane = r.lane }
+use Rattle.gl_engine.specs.Recording.{Recording, Closed, Identity, identity_of, left_by, recorded, recorded_whole}
 
 -- who may record in a session: its number and limits, and the lanes, in the order of thread numbers
 pub record Roster : Type 0 where

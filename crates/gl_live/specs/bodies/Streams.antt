@@ -15,11 +15,11 @@ use Rattle.gl_std.specs.declared.stream.Item.{Item}
 use Rattle.gl_std.specs.declared.trace.Trace.{Trace}
 use Rattle.gl_engine.specs.Collecting.{Collecting, lanes_of}
 use Rattle.gl_engine.specs.Gathering.{Gathering}
-use Rattle.gl_engine.specs.Recording.{Recording, recorded}
+use Rattle.gl_engine.specs.Recording.{Recording, recorded, identity_of}
 use Rattle.gl_live.specs.Streamed.{FailsInTime, IsStreamFault, IsUnread}
 use Rattle.gl_live.specs.bodies.Padded.{padded}
 use Rattle.gl_live.specs.bodies.Ready.{IsReady}
-use Rattle.gl_live.specs.bodies.Rosters.{Roster, gathered_from, identity_of, roster_of, AreReceipts, IsOnRoster, IsReceiptOf}
+use Rattle.gl_live.specs.bodies.Rosters.{Roster, gathered_from, roster_of, AreReceipts, IsOnRoster, IsReceiptOf}
 use Rattle.gl_live.specs.bodies.Runs.{HasRun}
 use Rattle.gl_live.specs.declared.faults.StreamFault.{StreamFault}
 use Rattle.gl_live.specs.declared.run.Ran.{Ran}

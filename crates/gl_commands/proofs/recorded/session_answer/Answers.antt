@@ -3,7 +3,7 @@ use Rattle.std.specs.Prelude.{IfOk}
 use Rattle.std.proofs.lemmas.Result.{err_from_is_err_and}
 use Rattle.gl_event.specs.Bounds.{greatest}
 use Rattle.gl_commands.specs.Answer.{IsAnswer}
-use Rattle.gl_commands.specs.Sessions.{listing_of, session_prediction}
+use Rattle.gl_commands.specs.Sessions.{listing_asked, session_prediction}
 use Rattle.gl_commands.specs.bodies.Needed.{contents_of}
 use Rattle.gl_commands.specs.Answer.Answer.{Prints, Refusal}
 use Rattle.gl_commands.specs.bodies.Stops.{IsAnswerToEach, IsLoopOf}
@@ -20,7 +20,7 @@ returns-in_err-report g c =
 
 pub returns : goal.returns
 returns g c =
-    let listing = listing_of c.args.options.now in
+    let listing = listing_asked c.args.options.now in
     let query = c.args.options.now.query in
     let form = c.args.options.now.form in
     let asked = session_prediction c.args.options.now in

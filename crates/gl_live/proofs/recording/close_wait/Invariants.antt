@@ -1,6 +1,5 @@
 use Rattle.std.proofs.Common.{◌≡◌}
-use Rattle.gl_engine.specs.Recording.{recorded}
-use Rattle.gl_live.specs.bodies.Rosters.{identity_of}
+use Rattle.gl_engine.specs.Recording.{recorded, identity_of}
 use Rattle.gl_live.proofs.recording.close_wait.Given as goal
 
 -- the lane was full so far, and the recorder is as it was

@@ -1,7 +1,6 @@
 use Rattle.std.proofs.Common.{◌∙◌, ◌++◌, ◌∷◌, [], sym, ap, append_assoc, take, arith}
 use Rattle.gl_world.proofs.Lists.{take_more, get_at}
-use Rattle.gl_engine.specs.Recording.{recorded}
-use Rattle.gl_live.specs.bodies.Rosters.{identity_of}
+use Rattle.gl_engine.specs.Recording.{recorded, identity_of}
 use Rattle.gl_live.proofs.Rostered.{recorded_more}
 use Rattle.gl_live.proofs.recording.record_each.Goals as goal
 

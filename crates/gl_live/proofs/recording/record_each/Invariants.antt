@@ -1,6 +1,5 @@
 use Rattle.std.proofs.Common.{◌≡◌, ◌++◌, take}
-use Rattle.gl_engine.specs.Recording.{recorded}
-use Rattle.gl_live.specs.bodies.Rosters.{identity_of}
+use Rattle.gl_engine.specs.Recording.{recorded, identity_of}
 use Rattle.gl_live.proofs.recording.record_each.Given as goal
 
 -- the events so far are recorded

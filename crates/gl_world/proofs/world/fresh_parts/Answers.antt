@@ -2,7 +2,7 @@ use Rattle.std.proofs.Common.{◌≡◌, ◌∷◌, [], length, sym, ap, ◌∙�
 use Rattle.std.specs.Vec.Iter.{into_iter_items}
 use Rattle.std.proofs.lemmas.List.{length_push}
 use Rattle.gl_intake.proofs.Fresh.{each_pushed}
-use Rattle.gl_world.specs.Keeping.{Keeper, lanes_of}
+use Rattle.gl_world.specs.Keeping.{Keeper, lanes_kept}
 use Rattle.gl_world.proofs.Worlds.{IsFreshPart, all_fresh, lanes_push}
 use Rattle.gl_world.proofs.world.fresh_parts.Goals as goal
 
@@ -20,7 +20,7 @@ loop-list-preserved c =
       counted = (let was = before.invariant.counted in let gone = c.in-Some.ensures.steps.1 in let short = ap length steps in omega arith);
       so_far = omega (arith, more, before.invariant.so_far);
       count = omega (arith, more, one, before.invariant.count, ap length grown);
-      lanes = ap lanes_of grown ∙ lanes_push _ before.parts.items part before.yielded x before.invariant.lanes (ap (λ (k : Keeper). k.lane) c.new-in-loop-list.ensures);
+      lanes = ap lanes_kept grown ∙ lanes_push _ before.parts.items part before.yielded x before.invariant.lanes (ap (λ (k : Keeper). k.lane) c.new-in-loop-list.ensures);
       each = λ i d within.
           rw grown
           (each_pushed (IsFreshPart c.args.limits.now) before.parts.items part before.invariant.each

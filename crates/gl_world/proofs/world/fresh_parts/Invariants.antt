@@ -1,7 +1,7 @@
 use Rattle.std.proofs.Common.{◌≡◌, ℕ, ◌<◌, ◌++◌, length, map, get_or}
 use Rattle.std.specs.Vec.Iter.{into_iter_items, into_iter_len}
 use Rattle.gl_world.specs.Machine.{fresh_lane}
-use Rattle.gl_world.specs.Keeping.{Keeper, lanes_of}
+use Rattle.gl_world.specs.Keeping.{Keeper, lanes_kept}
 use Rattle.gl_world.proofs.Worlds.{IsFreshPart}
 use Rattle.gl_world.proofs.world.fresh_parts.Given as goal
 
@@ -12,6 +12,6 @@ invariant-loop-list l = record {
   counted : into_iter_len l.list-iterator ≡ length (into_iter_items l.list-iterator);
   so_far : l.thread ≡ length l.yielded;
   count : length l.parts.items ≡ length l.yielded;
-  lanes : lanes_of l.parts.items ≡ map (λ w. fresh_lane w.items) l.yielded;
+  lanes : lanes_kept l.parts.items ≡ map (λ w. fresh_lane w.items) l.yielded;
   each : (i : ℕ) (d : Keeper) → i < length l.parts.items → IsFreshPart l.limits i (get_or l.parts.items i d);
 }

@@ -6,7 +6,7 @@ use Rattle.serde_json.specs.View.{view}
 use Rattle.gl_segments.specs.Clocks.{is_before}
 use Rattle.gl_check.specs.Checked.{AreListedAt}
 use Rattle.gl_check.specs.Cycles.{AreCyclesOf, IsFirstFault}
-use Rattle.gl_check.specs.Shape.{asked_in, cycles_in, format_in, is_listing, items_in, listing_of, listings_in}
+use Rattle.gl_check.specs.Shape.{asked_in, cycles_shown, format_in, is_listing, items_in, listing_in, listings_in}
 use Rattle.gl_check.specs.declared.faults.CheckFault.TheVariants.{Memory}
 use Rattle.gl_check.proofs.Faulty.{false_cycles, false_trim}
 use Rattle.gl_check.proofs.Tables.{retold}
@@ -27,11 +27,11 @@ returns-in_err-count-clause-fault c =
     let known = c.args.self.now in
     let d = view c.args.value.now in
     let before = is_before known.order.now in
-    let listed : map (λ cycle. items_in (view cycle)) c.listings_in-cycles.result.now ≡ cycles_in d =
+    let listed : map (λ cycle. items_in (view cycle)) c.listings_in-cycles.result.now ≡ cycles_shown d =
     sym (map-map items_in view c.listings_in-cycles.result.now) ∙ ap (map items_in) (c.listings_in-cycles.ensures ∙ ap (λ format. listings_in format d) c.requires.format) in
     let fault = c.in_err-count.field-0.0 in
-    let first : (fault ≡ Memory) ⊎ IsFirstFault (format_in d) known.names.now known.edges.now before (asked_in d) (cycles_in d) fault =
-    retold (λ format asked cycles. (fault ≡ Memory) ⊎ IsFirstFault format known.names.now known.edges.now before asked cycles fault) known.format (format_in d) known.query (asked_in d) _ (cycles_in d)
+    let first : (fault ≡ Memory) ⊎ IsFirstFault (format_in d) known.names.now known.edges.now before (asked_in d) (cycles_shown d) fault =
+    retold (λ format asked cycles. (fault ≡ Memory) ⊎ IsFirstFault format known.names.now known.edges.now before asked cycles fault) known.format (format_in d) known.query (asked_in d) _ (cycles_shown d)
     c.requires.format c.requires.query listed c.in_err-count.ensures.fault in
     rw (p.1, p.2) (false_cycles known.names.now known.edges.now before d fault c.in_ok-check_edges.ensures.ok first)
 
@@ -41,11 +41,11 @@ returns-in_err-acyclic-clause-fault c =
     let known = c.args.self.now in
     let d = view c.args.value.now in
     let before = is_before known.order.now in
-    let listed : map (λ cycle. items_in (view cycle)) c.listings_in-cycles.result.now ≡ cycles_in d =
+    let listed : map (λ cycle. items_in (view cycle)) c.listings_in-cycles.result.now ≡ cycles_shown d =
     sym (map-map items_in view c.listings_in-cycles.result.now) ∙ ap (map items_in) (c.listings_in-cycles.ensures ∙ ap (λ format. listings_in format d) c.requires.format) in
     let counted = c.in_ok-count.ensures.cycles in
     let are : AreListedAt known.names.now known.edges.now before d counted.0 =
-    retold (λ format asked cycles. AreCyclesOf format known.names.now known.edges.now before asked cycles counted.0) known.format (format_in d) known.query (asked_in d) _ (cycles_in d)
+    retold (λ format asked cycles. AreCyclesOf format known.names.now known.edges.now before asked cycles counted.0) known.format (format_in d) known.query (asked_in d) _ (cycles_shown d)
     c.requires.format c.requires.query listed counted.1 in
     rw (p.1, p.2) (false_trim known.names.now known.edges.now before d c.in_err-acyclic.field-0.0 counted.0 c.in_ok-check_edges.ensures.ok are c.in_err-acyclic.ensures.fault)
 
@@ -54,11 +54,11 @@ overflow_cast-result c =
     let known = c.args.self.now in
     let d = view c.args.value.now in
     let before = is_before known.order.now in
-    let listed : map (λ cycle. items_in (view cycle)) c.listings_in-cycles.result.now ≡ cycles_in d =
+    let listed : map (λ cycle. items_in (view cycle)) c.listings_in-cycles.result.now ≡ cycles_shown d =
     sym (map-map items_in view c.listings_in-cycles.result.now) ∙ ap (map items_in) (c.listings_in-cycles.ensures ∙ ap (λ format. listings_in format d) c.requires.format) in
     let counted = c.in_ok-count.ensures.cycles in
     let are : AreListedAt known.names.now known.edges.now before d counted.0 =
-    retold (λ format asked cycles. AreCyclesOf format known.names.now known.edges.now before asked cycles counted.0) known.format (format_in d) known.query (asked_in d) _ (cycles_in d)
+    retold (λ format asked cycles. AreCyclesOf format known.names.now known.edges.now before asked cycles counted.0) known.format (format_in d) known.query (asked_in d) _ (cycles_shown d)
     c.requires.format c.requires.query listed counted.1 in
     let many = as_many (format_in d) known.names.now known.edges.now before (asked_in d) d counted.0 are in
     let few = c.requires.few in
@@ -69,15 +69,15 @@ returns-clause-ok c =
     let known = c.args.self.now in
     let d = view c.args.value.now in
     let before = is_before known.order.now in
-    let listed : map (λ cycle. items_in (view cycle)) c.listings_in-cycles.result.now ≡ cycles_in d =
+    let listed : map (λ cycle. items_in (view cycle)) c.listings_in-cycles.result.now ≡ cycles_shown d =
     sym (map-map items_in view c.listings_in-cycles.result.now) ∙ ap (map items_in) (c.listings_in-cycles.ensures ∙ ap (λ format. listings_in format d) c.requires.format) in
     let counted = c.in_ok-count.ensures.cycles in
     let are : AreListedAt known.names.now known.edges.now before d counted.0 =
-    retold (λ format asked cycles. AreCyclesOf format known.names.now known.edges.now before asked cycles counted.0) known.format (format_in d) known.query (asked_in d) _ (cycles_in d)
+    retold (λ format asked cycles. AreCyclesOf format known.names.now known.edges.now before asked cycles counted.0) known.format (format_in d) known.query (asked_in d) _ (cycles_shown d)
     c.requires.format c.requires.query listed counted.1 in (
       counted.0,
       record { printed_table = c.in_ok-check_edges.ensures.ok; cycles = are; trim = c.in_ok-acyclic.ensures.whole },
-      c.listing_of-listing.ensures ∙ ap listing_of c.requires.format,
+      c.listing_of-listing.ensures ∙ ap listing_in c.requires.format,
       counted.2,
       c.in_ok-acyclic.ensures.trimmed,
     )
