@@ -16,8 +16,9 @@
 //! nothing. No edge of a cycle is among them, as [`cycles_survive_trims`] says. So where all go there is
 //! no cycle, in whichever order they go: [`removal_fault`] checks an order that was given.
 //!
-//! How a search that begins at one root after the other goes on on several threads ([`found_by_roots`]), and
-//! how what it found is listed ([`Found::listed`]), is the same for findings (gl_findings).
+//! How a search that begins at one root after the other goes on on several threads ([`found_by_roots`]), how many
+//! steps it has at first ([`first_steps`]), and how what it found is listed ([`Found::listed`]), is the same for
+//! findings (gl_findings).
 //!
 //! docs/GLOSSARY.md has its words beside those of the field.
 #![tactic(auto)]
@@ -45,3 +46,4 @@ pub use reports::{
 };
 pub use roots::{RootedSearch, found_by_roots};
 pub use searches::{search, search_parallel};
+pub use stages::first_steps;

@@ -12,7 +12,7 @@
 //! In each round edges are left out for one reason after the other. Before the last round the efforts
 //! are bound, so what comes too dear is tried again. In the last one edges are left out with all the
 //! effort that each reason makes at most, and the search then goes on to its end.
-ghost use Rattle.std.specs.Prelude.{◌≡◌, ◌<◌, ◌≤◌, take, IfOk, OnOk};
+ghost use Rattle.std.specs.Prelude.{◌≡◌, ◌<◌, ◌≤◌, ◌*◌, ◌-◌, ◌^◌, min, max, take, IfOk, OnOk};
 ghost use Rattle.gl_segments.specs.Clocks.{is_before};
 ghost use Rattle.gl_filters.specs.Picked.{edges_of_table};
 ghost use Rattle.gl_cycles.specs.Cycles.{cycles_in};
@@ -31,7 +31,7 @@ use std::thread::Threads;
 // The number of the last round, from 0.
 const LAST: usize = 2;
 
-// How many steps the search of the first round has for each edge, and how many at least.
+// How many steps a search has at first for each edge, and how many at least.
 const STEPS_OF_EDGE: usize = 64;
 
 const STEPS: usize = 10_000;
@@ -43,9 +43,16 @@ const GROWTH: usize = 4;
 // as much effort twice.
 const SHARE: usize = 4;
 
+/// How many steps a search has at first, among so many edges. Where it isn't through by then, leaving edges out may pay.
+pub fn first_steps(edges: usize) -> usize
+    ensures { result ≡ max (min (edges * 64) (2 ^ 64 - 1)) 10000 }
+{
+    edges.saturating_mul(STEPS_OF_EDGE).max(STEPS)
+}
+
 // How many steps the search of a round has, among so many edges.
 fn steps_of(round: usize, edges: usize) -> usize {
-    let mut steps = edges.saturating_mul(STEPS_OF_EDGE).max(STEPS);
+    let mut steps = first_steps(edges);
     for _ in 0..round {
         steps = steps.saturating_mul(GROWTH);
     }

@@ -7,7 +7,7 @@ ghost use Rattle.gl_findings.specs.bodies.Told.{AreGrounds};
 use crate::finder::Finder;
 use crate::grounds::Grounds;
 use crate::parallel::first_findings;
-use gl_cycles::{Found, edges_sought, edges_sought_parallel};
+use gl_cycles::{Found, edges_sought, edges_sought_parallel, first_steps};
 use gl_edges::EdgeList;
 use gl_event::Memory;
 use gl_filters::Query;
@@ -15,20 +15,6 @@ use gl_pruning::Sought;
 use gl_segments::Order;
 use std::alloc::Global;
 use std::thread::Threads;
-
-// How many steps the first search has for each edge, and how many at least.
-const STEPS_OF_EDGE: usize = 64;
-
-const STEPS: usize = 10_000;
-
-// How many steps the first search has.
-fn steps_of(edges: &EdgeList) -> usize {
-    edges
-        .entries()
-        .len()
-        .saturating_mul(STEPS_OF_EDGE)
-        .max(STEPS)
-}
 
 // The findings that are listed, where a search that is told this finds them in a few steps for each edge. None
 // where it doesn't.
@@ -45,7 +31,7 @@ fn found_within(
         (λ found. found ≡ listed_findings query.now (is_before order.now) edges.now)) }
 {
     let finder = Finder::of(alloc, edges, order, query, grounds, true)?;
-    match finder.findings_within(alloc, steps_of(edges))? {
+    match finder.findings_within(alloc, first_steps(edges.entries().len()))? {
         Some(findings) => Ok(Some(Found::listed(findings, query.max() as usize))),
         None => Ok(None),
     }
