@@ -44,17 +44,21 @@ impl LaneState {
         record_event(recorder, event, at)
     }
 
-    /// Ends the recording, and what is answered.
+    /// Ends the recording, and what is answered. A lane that is full and stays so, since nobody is left to pull,
+    /// is lost as well.
     pub fn close(self) -> (LaneState, u32)
         ensures { IsClose self result.1 result.0 }
     {
-        let LaneState::Recording(recorder) = self else {
+        let LaneState::Recording(mut recorder) = self else {
             return (self, MISUSE);
         };
+        let is_abandoned = recorder.is_abandoned();
         match recorder.close() {
             Ok(receipt) => (LaneState::Closed(receipt), OK),
-            Err(CloseFault::Full(recorder)) => (LaneState::Recording(recorder), FULL),
-            Err(CloseFault::Unconfirmed { .. }) => (LaneState::Lost, UNCONFIRMED),
+            Err(CloseFault::Full(recorder)) if !is_abandoned => {
+                (LaneState::Recording(recorder), FULL)
+            }
+            Err(_) => (LaneState::Lost, UNCONFIRMED),
         }
     }
 }

@@ -129,6 +129,15 @@ impl Recorder {
         self.taker.taken()
     }
 
+    /// Whether the collector's end of the lane was dropped, so that a lane that is full stays so. It takes one
+    /// step, and no clause says when.
+    pub fn is_abandoned(&mut self) -> bool
+        ensures same { self.new ≡ record self.old { room = self.new.room } }
+        ensures room { self.old.room ≤ self.new.room }
+    {
+        self.lane.is_abandoned()
+    }
+
     /// Records the thread's next event, and answers its place in the thread's list. Err where the event
     /// may not come next, and where the lane is full, in this order: the recorder is as it was then.
     ///

@@ -122,6 +122,16 @@ impl LaneIn {
         self.producer.cached_slots() > 0
     }
 
+    /// Whether the collector's end was dropped, so that a lane that is full stays so. It takes one step, and
+    /// no clause says when.
+    pub fn is_abandoned(&mut self) -> bool
+        ensures lane { self.new.lane ≡ self.old.lane }
+        ensures pushed { self.new.pushed ≡ self.old.pushed }
+        ensures room { self.old.room ≤ self.new.room }
+    {
+        self.producer.is_abandoned()
+    }
+
     /// Ends the pushing, and answers what stands for all notes that were pushed; `None` where the
     /// collector's end was dropped before. It takes no memory.
     pub fn finish(self) -> Option<Finished>

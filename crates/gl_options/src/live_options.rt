@@ -24,8 +24,8 @@ pub struct LiveOptions {
     /// Whether findings are listed, in place of cycles: those that were made at the same pairs of source places
     /// are one.
     pub findings: bool,
-    /// How many threads record, 1 to 16. The trace's thread `t` is recorded by thread `t` modulo this
-    /// number.
+    /// How many threads record, at least 1; the command line takes up to 16. The trace's thread `t` is recorded by
+    /// thread `t` modulo this number.
     pub recorders: u32,
     /// How many workers keep edges, 1 to 16.
     pub shards: u32,

@@ -292,8 +292,10 @@ fn leaves_nothing(recorder: LaneIn) -> bool {
 
 #[test]
 fn nobody_left_to_collect(rt: HostRuntime) {
-    let (recorder, collector) = both_ends(rt.alloc(), 1).expect(&rt, "a lane");
+    let (mut recorder, collector) = both_ends(rt.alloc(), 1).expect(&rt, "a lane");
+    assert!(rt; !recorder.is_abandoned());
     drop(collector);
+    assert!(rt; recorder.is_abandoned());
     assert!(rt; leaves_nothing(recorder));
 }
 
