@@ -415,6 +415,8 @@ static void orphans(void)
     acquire_two(&lanes[1], 0, 1);
     goodlock_session_free(&session);
     expect("a full lane of a freed session", goodlock_release(&lanes[1], 1, 0), GOODLOCK_FULL);
+    expect("a close of it", goodlock_close(&lanes[1]), GOODLOCK_UNCONFIRMED);
+    expect("a record after it", goodlock_release(&lanes[1], 1, 0), GOODLOCK_MISUSE);
     expect("a record of a freed session's lane", goodlock_acquire(&lanes[0], 0, 0), GOODLOCK_OK);
     expect("a close of a freed session's lane", goodlock_close(&lanes[0]), GOODLOCK_UNCONFIRMED);
     goodlock_lane_free(&lanes[0]);
