@@ -4,6 +4,7 @@ ghost use Rattle.std.specs.Vec.{vec_len, vec_capacity};
 ghost use Rattle.gl_edges.specs.declared.edge.Edge.{Edge};
 ghost use Rattle.gl_edges.specs.declared.edge.Sample.{Sample};
 ghost use Rattle.gl_shards.specs.Feeds.{FeedId};
+ghost use Rattle.gl_shards.specs.declared.shard.TheConstants.{MAX_SHARDS};
 ghost use Rattle.gl_engine.specs.bodies.Breaking.{first_of};
 ghost use Rattle.gl_engine.specs.Gathering.{AreEnded, AreUnused, HasNotBegun, HasRunThrough, IsLeftBy};
 ghost use Rattle.gl_engine.specs.declared.gathered.RunFault.TheVariants as kept;
