@@ -218,7 +218,7 @@ uint32_t goodlock_settled_report(goodlock_session *session, uint32_t mode, uint3
 /* The same, with locks and places numbered by first mention: thread 0's list first, event by event, then thread
    1's, and so on; each new name gets the next number, of an event its lock's before its place's. So where the threads
    of two runs did the same, by names, the two reports are the same, in whichever order the names were told. (Names that
-   tell equal ones apart by a run's own order, as goodlock_names.h makes "shelf" and "shelf #2", may be swapped in
+   tell equal ones apart by a run's own order, as goodlock_names.h makes "shelf" and "shelf#2", may be swapped in
    another run, and in its report.) The report keeps its names: it is printed by them. A step for each event and for
    each byte of a name more.
    OK, RANGE, INCONSISTENT, MEMORY, MISUSE as above. UNNAMED: a number of a lock or of a place was recorded that was

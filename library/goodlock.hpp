@@ -13,8 +13,8 @@
 //
 // - goodlock::mutex and recursive_mutex may be used with std::lock_guard, unique_lock, scoped_lock and condition_variable_any;
 //   places are then lines of the standard library's headers. guard<M> (and shared_guard<M>) or lock() itself have yours.
-// - Each lock has a name, by which reports tell it: the one it is made with (a second lock of that name is "name#2"), or else
-//   where it was made, as "mutex@bank.cc:17#1".
+// - Each lock has a name, by which reports tell it: the one it is made with (a second lock of that name is "name#2", or "name#3"
+//   where a lock has that name already, and so on), or else where it was made, as "mutex@bank.cc:17#1".
 // - A record costs what goodlock_record costs and a look-up of the place in a table of the thread. The first pass of a thread
 //   at a place, the first lock of a mutex and the start of a thread wait for the session's own mutex. Where a lane
 //   is full the thread yields until the collecting thread has pulled: a larger ring makes that rare.
@@ -107,8 +107,9 @@ public:
 
     uint32_t lock(const std::string &name) {
         std::lock_guard<std::mutex> hold(mutex);
-        const unsigned times = ++names[name];
-        const std::string own = times == 1 ? name : name + "#" + std::to_string(times);
+        std::string own = name;
+        while (!names.insert({own, 1}).second)
+            own = name + "#" + std::to_string(++names[name]);
         uint32_t number = NONE;
         goodlock_lock(&session, bytes(own), own.size(), &number);
         return number;
@@ -206,7 +207,7 @@ private:
 
     std::mutex mutex; // of the session and the names: one call at a time
     goodlock_session session = {nullptr};
-    std::unordered_map<std::string, unsigned> names; // of locks, and how many have each
+    std::unordered_map<std::string, unsigned> names; // of locks, and the last number that was set behind each
     std::thread collector;
     bool has_started = false;
     std::atomic<bool> open{false}, is_ending{false};

@@ -37,9 +37,9 @@
  * A table serves the locks of a session, or its places; one session after the other, too, which then have the same
  * numbers. Nobody else numbers names of that kind in the session.
  *
- * Locks often have one name: then the later numbers are told with " #2", " #3", .. behind it, in the order of their
+ * Locks often have one name: then the later numbers are told with "#2", "#3", .. behind it, in the order of their
  * numbers. Where that is a name of the table already, the next one is taken. So two runs that mention locks (or
- * places) of one name in another order may swap "shelf" and "shelf #2", in a report by mention, too: locks that are to
+ * places) of one name in another order may swap "shelf" and "shelf#2", in a report by mention, too: locks that are to
  * be told apart in the same way by each run have names of their own.
  *
  * ---- What the caller promises
@@ -95,7 +95,7 @@
 enum {
     GOODLOCK_NAMES_MOST_ = 1 << 24,
     GOODLOCK_NAMES_PROBES_ = 16, /* for a literal's address; then it goes by its bytes */
-    GOODLOCK_NAMES_SUFFIX_ = 12  /* bytes of the longest suffix, " #4294967295" */
+    GOODLOCK_NAMES_SUFFIX_ = 11  /* bytes of the longest suffix, "#4294967295" */
 };
 
 /* What has no number yet. */
@@ -108,7 +108,7 @@ struct goodlock_names_entry_ {
     uint64_t hash;
     size_t length;
     uint32_t number; /* atomic, written once */
-    uint32_t suffix; /* of the telling thread: 1: it was told by its name, 2: with " #2", ..; 0: not yet */
+    uint32_t suffix; /* of the telling thread: 1: it was told by its name, 2: with "#2", ..; 0: not yet */
     uint32_t uses;   /* of the telling thread, for a name: the greatest suffix that it was told with */
 };
 
@@ -344,7 +344,6 @@ static inline size_t goodlock_names_suffixed_(struct goodlock_names_entry_ *name
         return name->length;
     for (; suffix > 0; suffix /= 10)
         digits[count++] = (uint8_t)('0' + suffix % 10);
-    *at++ = ' ';
     *at++ = '#';
     while (count > 0)
         *at++ = digits[--count];

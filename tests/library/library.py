@@ -84,8 +84,8 @@ cycles: 1
 """
 BY_ADDRESS = """\
 cycle 1: 2 edges
-  T0 holds shelf since move, from wants shelf #2 at move, to
-  T1 holds shelf #2 since move, from wants shelf at move, to
+  T0 holds shelf since move, from wants shelf#2 at move, to
+  T1 holds shelf#2 since move, from wants shelf at move, to
 cycles: 1
 locks: 22, places: 7
 """
@@ -369,7 +369,7 @@ class Tests:
         for name, words in SANITIZERS.items():
             c = ["g++", "-std=c++17", "-O1", "-g", *STRICT, f"-I{HEADERS}", *words, source, ARCHIVE, "-lpthread"]
             if self.build(f"wrapper_{name}", *c):
-                for word in ("locks", "threads", "leave"):
+                for word in ("locks", "names", "threads", "leave"):
                     self.counted(f"wrapper, {word}, {name}", f"wrapper_{name}", word, env=environment)
 
     # --- Names
@@ -491,7 +491,7 @@ class Tests:
             if name == "address":  # its compiler takes half a minute for this file
                 continue
             if self.build(f"debug_wrapper_{name}", "g++", "-std=c++17", HERE / "wrapper.cc", *rest):
-                for word in ("locks", "threads"):
+                for word in ("locks", "names", "threads"):
                     self.counted(f"debug, wrapper, {word}, {name}", f"debug_wrapper_{name}", word, env=environment)
                 self.left(f"debug, wrapper, leave, {name}", 1, f"debug_wrapper_{name}", "leave")
         for source, compiler, right in (("bank.c", "gcc", BY_NAME), ("named.c", "gcc", BY_ADDRESS)):

@@ -328,7 +328,7 @@ static unsigned mentions(void)
         told++;
     }
     check(told_locks == 5, "all are told");
-    check(lock_of(&session, "savings #2") == 1 && lock_of(&session, "current") == 2 && lock_of(&session, "here") == 3 &&
+    check(lock_of(&session, "savings#2") == 1 && lock_of(&session, "current") == 2 && lock_of(&session, "here") == 3 &&
               lock_of(&session, "new") == 4 && lock_of(&session, "end") == 5,
           "the names are told by their numbers");
     goodlock_names_free(&names);
@@ -382,8 +382,8 @@ static void in_a_quiet_child(void)
 /* ---- Sessions that are told */
 
 static const char REPORT[] = "cycle 1: 2 edges\n"
-                             "  T0 holds account since here wants account #2 at there\n"
-                             "  T1 holds account #2 since here wants account at there\n"
+                             "  T0 holds account since here wants account#2 at there\n"
+                             "  T1 holds account#2 since here wants account at there\n"
                              "cycles: 1\n";
 
 static bool is_text(goodlock_session *session, goodlock_report *report, const char *right)
@@ -472,12 +472,12 @@ static void other_orders(void)
                                      "  T1 holds right since here wants left at here\n"
                                      "cycles: 1\n";
     static const char equal[] = "cycle 1: 2 edges\n"
-                                "  T0 holds shelf since here wants shelf #2 at here\n"
-                                "  T1 holds shelf #2 since here wants shelf at here\n"
+                                "  T0 holds shelf since here wants shelf#2 at here\n"
+                                "  T1 holds shelf#2 since here wants shelf at here\n"
                                 "cycles: 1\n";
     static const char swapped[] = "cycle 1: 2 edges\n"
-                                  "  T0 holds shelf #2 since here wants shelf at here\n"
-                                  "  T1 holds shelf since here wants shelf #2 at here\n"
+                                  "  T0 holds shelf#2 since here wants shelf at here\n"
+                                  "  T1 holds shelf since here wants shelf#2 at here\n"
                                   "cycles: 1\n";
     check(is_by_mention("left", "right", false, left_first), "names that differ");
     check(is_by_mention("left", "right", true, left_first), "names that differ, in the other order");
@@ -488,17 +488,17 @@ static void other_orders(void)
 /* Suffixes that are names already; told in two parts, and to a second session and as places at once. */
 static void suffixes(void)
 {
-    static const char *const right[] = {"x", "x #2", "x #3", "x #4", "x #4 #2", "", " #2", "y", "x #5", " #3"};
+    static const char *const right[] = {"x", "x#2", "x#3", "x#4", "x#4#2", "", "#2", "y", "x#5", "#3"};
     enum { COUNT = sizeof right / sizeof *right };
     static char memory[COUNT];
     goodlock_names names = opened(COUNT);
     goodlock_session first = open_session(1), second = open_session(1);
     uint32_t told = 0, told_second = 0, told_places = 0, wrong = 0;
     wrong += at(&names, &memory[0], "x") != 0;
-    wrong += of(&names, "x #2") != 1;
+    wrong += of(&names, "x#2") != 1;
     wrong += at(&names, &memory[2], "x") != 2;
     wrong += of(&names, "x") != 3;
-    wrong += of(&names, "x #4") != 4;
+    wrong += of(&names, "x#4") != 4;
     expect("telling", goodlock_tell_locks(&first, &names, &told), GOODLOCK_OK);
     check(told == 5, "five are told");
     wrong += of(&names, "") != 5;
@@ -532,7 +532,7 @@ static void many_of_one_name(void)
     expect("telling", goodlock_tell_locks(&session, &names, &told), GOODLOCK_OK);
     check(told == sizeof memory, "all are told");
     for (uint32_t i = 1; i < sizeof memory; i++) {
-        snprintf(name, sizeof name, "account #%u", i + 1);
+        snprintf(name, sizeof name, "account#%u", i + 1);
         wrong += lock_of(&session, name) != i;
     }
     check(wrong == 0 && lock_of(&session, "account") == 0, "20,000 locks of one name are 20,000 names");

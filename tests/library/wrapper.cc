@@ -1,6 +1,7 @@
 // Tests goodlock.hpp: each kind of lock, with std's helpers, and what is done where there is no session or no lane.
 //
 //     library_wrapper locks       known reports of each kind of lock
+//     library_wrapper names       locks of one name, and of a name that tells such ones apart
 //     library_wrapper threads     many threads with small rings, of which some have no lane
 //     library_wrapper leave       main returns without finish(), while a thread records
 //
@@ -73,6 +74,14 @@ static const char *const RIGHT = "cycle 1: 2 edges\n"
                                  "  T6 holds w since wrapper:6 wants r at wrapper:7\n"
                                  "cycles: 2\n";
 
+static const char *const TOLD_APART = "cycle 1: 2 edges\n"
+                                      "  T1 holds shelf#2 since wrapper:2 wants shelf#2#2 at wrapper:3\n"
+                                      "  T2 holds shelf#2#2 since wrapper:2 wants shelf#2 at wrapper:3\n"
+                                      "cycle 2: 2 edges\n"
+                                      "  T3 holds shelf#3 since wrapper:2 wants shelf#4 at wrapper:3\n"
+                                      "  T4 holds shelf#4 since wrapper:2 wants shelf#3 at wrapper:3\n"
+                                      "cycles: 2\n";
+
 template <class M, class N> static void opposite(M &one, N &other)
 {
     one_by_one(
@@ -89,7 +98,7 @@ template <class M, class N> static void opposite(M &one, N &other)
             one.unlock();
         });
 }
-#line 90 "tests/library/wrapper.cc"
+#line 102 "tests/library/wrapper.cc"
 
 static void locks()
 {
@@ -128,7 +137,7 @@ static void locks()
             goodlock::guard<goodlock::shared_mutex> first(w);
             r.lock();
             r.unlock();
-#line 130 "tests/library/wrapper.cc"
+#line 141 "tests/library/wrapper.cc"
         });
     goodlock::recursive_mutex x, y;
     in_a_thread([&] { std::lock_guard<goodlock::recursive_mutex> first(x), again(x), second(y); });
@@ -152,6 +161,21 @@ static void locks()
     check(result.text == RIGHT, "another text:\n" + result.text);
     check(goodlock::finish().code == GOODLOCK_MISUSE, "a second end");
     goodlock::guard<goodlock::mutex> hold(a);
+}
+
+// Locks of one name are told apart by what is set behind it, which no other lock has as its name.
+static void names()
+{
+    check(goodlock::start(24, 64) == GOODLOCK_OK, "start");
+    goodlock::mutex one("shelf"), two("shelf"), given("shelf#2"), three("shelf#3"), four("shelf");
+    for (goodlock::mutex *lock : {&one, &two, &given, &three, &four}) // a lock has its name from its first use on
+        goodlock::guard<goodlock::mutex> hold(*lock);
+    opposite(two, given);
+    opposite(three, four);
+    const goodlock::result result = goodlock::finish();
+    check(result.code == GOODLOCK_OK && result.is_settled && result.unrecorded == 0, "the report is settled");
+    check(result.cycles == 2, "there are two cycles");
+    check(result.text == TOLD_APART, "another text:\n" + result.text);
 }
 
 static void threads()
@@ -199,6 +223,8 @@ int main(int count, char **words)
     const std::string word = count == 2 ? words[1] : "";
     if (word == "locks")
         locks();
+    else if (word == "names")
+        names();
     else if (word == "threads")
         threads();
     else if (word == "leave")
