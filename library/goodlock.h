@@ -53,8 +53,10 @@
  * - A pointer that is handed over isn't null (nor where its size is 0), and stands for as many bytes as are said.
  *   What is written to overlaps with nothing else that is handed over.
  *
- * What isn't recorded isn't seen: a lock that is taken past these calls, a fork or join that isn't told (without it the
- * report may list a deadlock that can't happen).
+ * What isn't recorded isn't seen: a lock that is taken past these calls, a fork or join that isn't told. Of an acquire
+ * that is left out its release is left out, too, and with them whatever the thread acquires between the two. Without a
+ * release, without a lock that others are recorded within, and without a fork or join the report may list a deadlock
+ * that can't happen.
  *
  * ---- What it costs
  *
@@ -263,7 +265,8 @@ void goodlock_report_free(goodlock_report *report);
    event may not come next, and where there is no room, it is the place that it would have had; RANGE and MISUSE
    leave *at as it was.
    OK. RANGE (the kind), a refusal: the event may not come next. FULL. MISUSE. Unless OK nothing was recorded.
-   What may not come next is tried before whether there is room. */
+   What may not come next is tried before whether there is room. FULL: record it again before the thread's next event,
+   once the session has pulled; or leave it out with all that is said above: a release is never left out alone. */
 uint32_t goodlock_record(goodlock_lane *lane, uint32_t kind, uint32_t operand, uint32_t place, uint32_t *at);
 
 /* Ends the recording.

@@ -7,12 +7,13 @@ The headers are compiled alone as C and as C++. The numbers and types of goodloc
 header.c is of its short forms and its words. Each example of library/examples prints its known report. sessions.c
 records random sessions in running threads; each report's text and JSON has to be what PROGRAM says of the trace of
 what was recorded, byte for byte. Some hundred of them run under AddressSanitizer, ThreadSanitizer and Valgrind.
-misuse.c uses each call wrongly, refuses memory, forks and leaves in mid-course; order.c tells the same by numbers in
-two orders, and their reports by mention have to be the same; wrapper.cc is of goodlock.hpp, names.c of
-goodlock_names.h, as C and as C++, by many threads and by all short schedules of two or three; debug.c breaks each
-promise that goodlock_debug.h checks, and the tests above that keep them are run with GOODLOCK_DEBUG, too, in which they
-say the same. Every run has a limit of time. The last line is `N passed, N failed`, with `, N skipped` behind it where
-tools are missing: each is named. PART: headers, examples, wrapper, names, sessions, sanitized, misuse, order, debug.
+misuse.c uses each call wrongly, refuses memory, forks and leaves in mid-course; partial.c leaves events out, and goes
+on in a second session; order.c tells the same by numbers in two orders, and their reports by mention have to be the
+same; wrapper.cc is of goodlock.hpp, names.c of goodlock_names.h, as C and as C++, by many threads and by all short
+schedules of two or three; debug.c breaks each promise that goodlock_debug.h checks, and the tests above that keep them
+are run with GOODLOCK_DEBUG, too, in which they say the same. Every run has a limit of time. The last line is `N passed,
+N failed`, with `, N skipped` behind it where tools are missing: each is named. PART: headers, examples, wrapper, names,
+sessions, sanitized, misuse, order, debug.
 
 LIBRARY   the archive that is tested   (prebuilt/libgoodlock.a)
 CASES     how many random sessions     (3000, as --cases)
@@ -395,12 +396,14 @@ class Tests:
     # --- Misuse
 
     def misuse(self):
-        source = HERE / "misuse.c"
         for name, words in SANITIZERS.items():
-            c = ["gcc", "-std=gnu11", "-O1", "-g", *STRICT, f"-I{HEADERS}", *words, source, ARCHIVE, *WRAPS]
-            if self.build(f"misuse_{name}", *c, "-lpthread"):
+            c = ["gcc", "-std=gnu11", "-O1", "-g", *STRICT, f"-I{HEADERS}", *words]
+            if self.build(f"misuse_{name}", *c, HERE / "misuse.c", ARCHIVE, *WRAPS, "-lpthread"):
                 for word in ("misuse", "limits", "memory", "fork", "exit"):
                     self.counted(f"{word}, {name}", f"misuse_{name}", word)
+            if self.build(f"partial_{name}", *c, HERE / "partial.c", ARCHIVE, "-lpthread"):
+                for word in ("scenes", "full"):
+                    self.counted(f"partial, {word}, {name}", f"partial_{name}", word)
 
     # --- Numbers in another order
 
@@ -485,6 +488,9 @@ class Tests:
                 for word in ("misuse", "limits", "memory", "fork"):
                     self.counted(f"debug, {word}, {name}", f"debug_misuse_{name}", word)
                 self.left(f"debug, exit, {name}", 2, f"debug_misuse_{name}", "exit")
+            if self.build(f"debug_partial_{name}", "gcc", "-std=gnu11", HERE / "partial.c", *rest):
+                for word in ("scenes", "full"):
+                    self.counted(f"debug, partial, {word}, {name}", f"debug_partial_{name}", word)
             if self.build(f"debug_names_{name}", "gcc", "-std=gnu11", HERE / "names.c", *rest, *WRAPS):
                 for word in ("numbers", "memory", "report", "threads"):
                     self.counted(f"debug, names, {word}, {name}", f"debug_names_{name}", word)
