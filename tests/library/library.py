@@ -4,9 +4,10 @@
     library.py [--cases N] [--seed S] [--only PART ..] PROGRAM
 
 The headers are compiled alone as C and as C++. The numbers and types of goodlock.h have to be those of crates/gl_c;
-header.c is of its short forms and its words. Each example of library/examples prints its known report. sessions.c
-records random sessions in running threads; each report's text and JSON has to be what PROGRAM says of the trace of
-what was recorded, byte for byte. Some hundred of them run under AddressSanitizer, ThreadSanitizer and Valgrind.
+header.c is of its short forms and its words. Each example of library/examples prints its known report. The blocks of
+docs/EMBEDDING.md are compiled and run as they stand there, and its commands are typed, but for what is installed.
+sessions.c records random sessions in running threads; each report's text and JSON has to be what PROGRAM says of the
+trace of what was recorded, byte for byte. Some hundred of them run under AddressSanitizer, ThreadSanitizer and Valgrind.
 misuse.c uses each call wrongly, refuses memory, forks and leaves in mid-course; partial.c leaves events out, and goes
 on in a second session; order.c tells the same by numbers in two orders, and their reports by mention have to be the
 same; wrapper.cc is of goodlock.hpp, names.c of goodlock_names.h, as C and as C++, by many threads and by all short
@@ -36,6 +37,7 @@ TOP = HERE.parent.parent
 HEADERS = TOP / "library"
 EXAMPLES = HEADERS / "examples"
 EXPORTS = TOP / "crates" / "gl_c" / "src"
+PAGE = TOP / "docs" / "EMBEDDING.md"
 FAULTS = TOP / "crates" / "gl_std" / "specs" / "Faults.antt"
 ARCHIVE = pathlib.Path(os.environ.get("LIBRARY") or TOP / "prebuilt" / "libgoodlock.a").resolve()
 STRICT = ["-Wall", "-Wextra", "-pedantic", "-Werror"]
@@ -90,6 +92,58 @@ cycle 1: 2 edges
 cycles: 1
 locks: 22, places: 7
 """
+# What stands around the blocks of docs/EMBEDDING.md: {includes} are theirs, {0}, {1} .. the rest of them. Two threads
+# record one after the other.
+AROUND = """\
+{includes}
+#include <pthread.h>
+#include <stdio.h>
+
+#define OK(call) ok(call, #call)
+static void ok(uint32_t code, const char *call)
+{{
+    if (code != GOODLOCK_OK)
+        printf("%s: %s\\n", call, goodlock_says(code));
+}}
+
+int main(void)
+{{
+    pthread_mutex_t mutex = PTHREAD_MUTEX_INITIALIZER;
+"""
+AROUND_SESSION = (
+    AROUND
+    + """\
+    goodlock_pulled pulled;
+    goodlock_report report = {{0}};
+    uint8_t buffer[1000];
+    size_t needed;
+{0}
+    for (uint32_t own = 0; own < 2; own++) {{
+{1}
+    }}
+{2}
+    printf("so far %.*s", (int)needed, (const char *)buffer);
+{3}
+    printf("settled %.*s", (int)needed, (const char *)buffer);
+    return 0;
+}}
+"""
+)
+AROUND_NAMES = (
+    AROUND
+    + """\
+    goodlock_session session = {{0}};
+    uint32_t lock, other, place, told_locks = 0, told_places = 0;
+    OK(goodlock_open(1, 1, 1, &session));
+{0}
+    printf("lock %u, other %u, place %u, told %u and %u\\n", lock, other, place, told_locks, told_places);
+    goodlock_names_free(&locks);
+    goodlock_names_free(&places);
+    goodlock_session_free(&session);
+    return 0;
+}}
+"""
+)
 SANITIZERS = {"plain": [], "address": ["-fsanitize=address,undefined"], "thread": ["-fsanitize=thread"]}
 WRAPS = [f"-Wl,--wrap={name}" for name in ("malloc", "calloc", "realloc", "aligned_alloc")]
 DEBUG = "-DGOODLOCK_DEBUG"
@@ -242,12 +296,71 @@ class Tests:
             shutil.copy(EXAMPLES / "bank.cc", self.folder)
             if self.build("bank_cc", "g++", f"-std={standard}", *c, "bank.cc", ARCHIVE, "-lpthread"):
                 self.example(f"the example in {standard}", BY_LINE, "./bank_cc")
+        self.page()
         self.rust()
         shared = self.folder / "libgoodlock.so.0"
         whole = ["-Wl,--whole-archive", ARCHIVE, "-Wl,--no-whole-archive", "-Wl,-soname,libgoodlock.so.0", "-lpthread"]
         if self.build(shared.name, "gcc", "-shared", *whole):
             self.example("the example in Python", BY_NAME, sys.executable, EXAMPLES / "bank.py", shared)
         self.java()
+
+    @staticmethod
+    def blocks(heading):
+        """The indented blocks of docs/EMBEDDING.md under this heading, up to the next one."""
+        section = re.split(r"^#+ ", PAGE.read_text().partition(f"\n{heading}\n")[2], maxsplit=1, flags=re.M)[0]
+        found = re.findall(r"(?:^    .*\n(?:\n(?=    ))*)+", section, re.M)
+        return [re.sub(r"^    ", "", block, flags=re.M) for block in found]
+
+    def page(self):
+        """The blocks of docs/EMBEDDING.md as they stand there: code is compiled and run, commands are typed."""
+        self.page_in_c("session", "## From C", 4, AROUND_SESSION, "so far cycles: 0\nsettled cycles: 0\n")
+        right = "lock 0, other 1, place 0, told 2 and 1\n"
+        self.page_in_c("names", "### Names from any thread", 1, AROUND_NAMES, right)
+        (self.folder / "page.cc").write_text("".join(self.blocks("## From C++")[:1]))
+        c = ["-std=c++11", *STRICT, f"-I{HEADERS}", DEBUG]
+        if self.build("page_cc", "g++", *c, "page.cc", ARCHIVE, "-lpthread"):
+            self.example("the page's code in C++", "cycles: 0\n", "./page_cc")
+        self.check("the page's report", BY_NAME in self.blocks("## From C"), "it isn't that of the examples")
+        by_line = BY_LINE.replace("bank.cc", "library/examples/bank.cc")
+        for heading, tool, right in (("C", "cc", BY_NAME), ("C++", "g++", by_line), ("Rust", "rustc", BY_NAME)):
+            if shutil.which(tool) is None:
+                self.skip(f"the page's commands for {heading}", f"{tool} isn't installed")
+            else:
+                self.typed(heading, "./bank", right)
+        if shutil.which("javac") is None or not os.path.exists(f"{JAVA[0]}/include/jni.h"):
+            self.skip("the page's commands for Java", f"there is no {JAVA[0]}")
+        else:
+            self.typed("Java", "", BY_NAME)
+
+    def page_in_c(self, name, heading, count, around, right):
+        """Each call of so many blocks has to answer OK, and all that is opened is given back."""
+        code = "".join(self.blocks(heading)[:count])
+        includes = "".join(re.findall(r"^#include .*\n", code, re.M))
+        parts = [re.sub(r"^(?:#include .*|\.\.)\n", "", block, flags=re.M) for block in self.blocks(heading)[:count]]
+        parts = [
+            re.sub(r"^( *)(goodlock_(?!\w*(?:free|forget)\()\w+\(.*?\));", r"\1OK(\2);", part, flags=re.M)
+            for part in parts
+        ]
+        if not self.check(f"the page's blocks, {name}", len(parts) == count, f"there are {len(parts)}"):
+            return
+        (self.folder / f"page_{name}.c").write_text(around.format(*parts, includes=includes))
+        c = ["-std=gnu11", *STRICT, f"-I{HEADERS}", DEBUG]
+        if self.build(f"page_{name}", "gcc", *c, f"page_{name}.c", ARCHIVE, "-lpthread"):
+            self.example(f"the page's code, {name}", right, f"./page_{name}")
+
+    def typed(self, heading, more, right):
+        """Commands under a heading, but for those of what is installed, typed in a checkout without JAVA_HOME, and more."""
+        with tempfile.TemporaryDirectory(dir=self.folder) as place:
+            checkout = pathlib.Path(place)
+            (checkout / "library").symlink_to(HEADERS)
+            (checkout / "prebuilt").mkdir()
+            (checkout / "prebuilt" / "libgoodlock.a").symlink_to(ARCHIVE)
+            block = self.blocks(f"## From {heading}")[-1]
+            lines = [line for line in block.splitlines() if not re.search(r"pkg-config|/usr/local", line)]
+            environment = {name: value for name, value in os.environ.items() if name != "JAVA_HOME"}
+            done = run("sh", "-ec", "\n".join([*lines, more]), cwd=checkout, env=environment)
+            problem = f"status {done.status}\n{done.output}{done.errors}"
+            self.check(f"the page's commands for {heading}", done == Done(0, right, ""), problem)
 
     def rust(self):
         if shutil.which("rustc") is None:
