@@ -99,7 +99,8 @@ typedef struct goodlock_report {
     void *at;
 } goodlock_report;
 
-/* ---- What a call answers (a uint32_t). goodlock_says has words for it. */
+/* ---- What a call answers (a uint32_t). goodlock_says has words for it. Unless a call says otherwise, what it would
+   write is as it was where it doesn't answer OK. */
 enum {
     GOODLOCK_OK = 0,
     GOODLOCK_MEMORY = 1,  /* memory was refused; nothing was done, unless the call says what stands */
@@ -110,7 +111,7 @@ enum {
     GOODLOCK_UNCONFIRMED = 6,   /* the session was freed before the lane was closed */
     GOODLOCK_STRANGE = 7,       /* the lane is of another session, or of a thread whose lane was handed in already */
     GOODLOCK_MISSING = 8,       /* a thread's lane was not handed in, or not all of it was pulled */
-    GOODLOCK_BROKEN = 9,        /* a note that was pulled may not come next: not where handles were used as promised */
+    GOODLOCK_BROKEN = 9,        /* the next note of a lane may not come next: not where handles were used as promised */
     GOODLOCK_INCONSISTENT = 10, /* forks and joins order a part of a thread before itself */
     GOODLOCK_NAMES = 11,        /* there are as many names as there may be: 4,294,967,295 */
     GOODLOCK_UNNAMED = 12,      /* a lock or a place has no name */
@@ -162,7 +163,8 @@ uint32_t goodlock_open(uint64_t number, uint32_t threads, uint32_t ring, goodloc
 
 /* Gives out the lane of the next thread, and the thread's number: 0, 1, .. in the order of these calls. Reports
    name the threads T0, T1, .. by it. The lane is yours to hand to the thread, and to free where it isn't handed
-   in. A few steps, and 1.7 KB of memory more for the lane, until it is handed in or freed.
+   in. A lane is given out once: one that was handed in isn't given out again, so `threads` is how many threads the
+   session has in its life. A few steps, and 1.7 KB of memory more for the lane, until it is handed in or freed.
    OK, NO_LANE, MEMORY, MISUSE (the session isn't open, or *lane isn't all zero). */
 uint32_t goodlock_lane_open(goodlock_session *session, goodlock_lane *lane, uint32_t *thread);
 
@@ -181,9 +183,12 @@ uint32_t goodlock_place(goodlock_session *session, const uint8_t *name, size_t l
 
 /* Pulls at most `most` notes (events and end marks) off the lanes, each lane in turn from thread 0, and off
    none more than its ring holds: with `most` the rings of all lanes, or more, a busy one doesn't keep the others
-   waiting. *pulled says how many of either, in every case; none at all: the lanes are empty now, or ended. What it
-   costs is said above; a lane that is empty is a look.
-   OK. MEMORY: what was pulled before stands, nothing is lost; call again. BROKEN, MISUSE. */
+   waiting. *pulled says how many of either, in every case; none at all, where it answers OK and `most` isn't 0: each
+   lane was empty when its turn came, or has ended. What it costs is said above; a lane that is empty is a look.
+   OK. MEMORY: what was pulled before stands, nothing is lost; call again. BROKEN: what was pulled before stands. The
+   note stays in its lane, so that each later call that comes to it answers BROKEN, and comes to no lane behind it.
+   Which lane that is goodlock_pull_lane tells of each thread, and still pulls off the others. Reports are of what was
+   pulled; the session can't be settled any more. MISUSE. */
 uint32_t goodlock_pull(goodlock_session *session, uint32_t most, goodlock_pulled *pulled);
 
 /* The same off one thread's lane: at most `most` notes, also more than its ring holds where the thread goes on. A note
@@ -193,27 +198,34 @@ uint32_t goodlock_pull_lane(goodlock_session *session, uint32_t thread, uint32_t
 
 /* Makes the report of all that was pulled so far: its mode, the greatest length of a cycle (2 to 16), and the
    most cycles that it lists (1 to 100,000). It may list a cycle that the settled report drops, as where the
-   join that keeps two threads apart comes later. The session is as it was, and threads may record meanwhile. It
-   costs what a run of `goodlock predict` costs on that much.
-   OK: free the report in the end. RANGE, INCONSISTENT, MEMORY, MISUSE (*report isn't all zero, or the session
-   isn't open or is settled): *report is as it was. */
+   join that keeps two threads apart comes later. The session is as it was, and threads may record meanwhile; but
+   nobody pulls while it is made, so a ring holds what a thread records for as long, or is full. It costs what a run of
+   `goodlock predict` costs on that much.
+   OK: free the report in the end. RANGE, MEMORY, MISUSE (*report isn't all zero, or the session isn't open or is
+   settled): *report is as it was. INCONSISTENT: the same, in each mode: a thread joined another one before it was
+   forked, say. Of which thread that is isn't told, and as what was pulled stays, each later report of the session
+   answers so. */
 uint32_t goodlock_report_so_far(goodlock_session *session, uint32_t mode, uint32_t length, uint32_t number,
                                 goodlock_report *report);
 
 /* Takes back a lane that was closed. A look at each lane that was handed in before, and 48 bytes of memory, or up to
    twice that where the list of them has just grown; the 1.7 KB of the lane are given back.
-   OK: the lane is all zero. MISUSE (a lane that isn't closed, too), MEMORY, STRANGE: it is as it was. */
+   OK: the lane is all zero. MISUSE (a lane that isn't closed, or a session that is settled, too), MEMORY, STRANGE: it
+   is as it was. */
 uint32_t goodlock_hand_in(goodlock_session *session, goodlock_lane *lane);
 
-/* Settles the session: each of its lanes was given out, closed, pulled to its end mark, and handed in. (A lane
-   whose thread never starts is closed by who has it.) For each lane a look at those that were handed in, so about a
+/* Settles the session: each of its lanes was given out, closed, pulled to its end mark, and handed in. (Lanes that
+   nobody used, too: open, close, pull and hand in what is left, until goodlock_lane_open answers NO_LANE. A lane whose
+   thread never starts is closed by who has it.) For each lane a look at those that were handed in, so about a
    million for 1,024 threads, whatever they recorded. It takes no memory, and gives back the rings where it answers OK.
    OK: nothing that the threads recorded is missing; the session records no more, and answers
    goodlock_settled_report. MISSING: *thread is the first one whose lane wasn't handed in, or else the first one
-   that wasn't pulled to its end. STRANGE, MISUSE. Unless OK the session is as it was. */
+   that wasn't pulled to its end; *thread is written with MISSING only. STRANGE, MISUSE. Unless OK the session is as it
+   was. */
 uint32_t goodlock_settle(goodlock_session *session, uint32_t *thread);
 
-/* The report of a settled session: of all that its threads recorded. Answers as goodlock_report_so_far does. */
+/* The report of a settled session: of all that its threads recorded. Answers as goodlock_report_so_far does, but MISUSE
+   where the session isn't settled. */
 uint32_t goodlock_settled_report(goodlock_session *session, uint32_t mode, uint32_t length, uint32_t number,
                                  goodlock_report *report);
 
@@ -230,9 +242,10 @@ uint32_t goodlock_report_by_mention(goodlock_session *session, uint32_t mode, ui
 
 /* The text of a report of this session, as `goodlock predict` prints it, in `buffer` of `size` bytes: all of it
    where *needed <= size, else nothing. *needed is its length in bytes; there is no zero at the end. (With size
-   0 it asks for the length.) Names that are told after the report are known, too. A step for each byte of the text,
-   also where it doesn't fit: it is made in memory of its own, of up to three times its length, which is given back
-   before the call returns.
+   0 it asks for the length; the buffer isn't null then either: a byte of yours will do.) Names that are told after the
+   report are known, too. The session was not freed, also where the report has its own names. A step for each byte of
+   the text, also where it doesn't fit: it is made in memory of its own, of up to three times its length, which is given
+   back before the call returns.
    OK (also where it didn't fit), MEMORY, MISUSE. */
 uint32_t goodlock_text(goodlock_session *session, goodlock_report *report, uint8_t *buffer, size_t size,
                        size_t *needed);
@@ -244,13 +257,16 @@ uint32_t goodlock_text(goodlock_session *session, goodlock_report *report, uint8
 uint32_t goodlock_json(goodlock_session *session, goodlock_report *report, uint8_t *buffer, size_t size,
                        size_t *needed);
 
-/* How many cycles the report lists, and whether there are more. One step, and no memory.
+/* How many cycles the report lists, and whether there are more. One step, and no memory. No session is asked: this
+   call and goodlock_report_free are made on any thread, one at a time for a report, while others work with the session
+   and after it was freed.
    OK, MISUSE. */
 uint32_t goodlock_cycles(goodlock_report *report, size_t *cycles, bool *more);
 
 /* Give back what a handle has; it is all zero then, and may be opened again. One that is all zero already stays
-   so. A session may be freed while threads record: their calls go on answering (FULL in the end), their close
-   UNCONFIRMED. A lane may be freed at any time; the session can't be settled then.
+   so. A session may be freed while threads record: their calls go on answering, a record FULL in the end and for ever,
+   and a close UNCONFIRMED. Whoever waits for room for an event asks something of its own whether the session is still
+   there. A lane may be freed at any time; the session can't be settled then.
    They take no memory. A session: a step for each thread and for each name; a lane: a few steps. Where both are freed,
    the later call takes a step for each note that is left in the ring, too, and gives that back. A report: a step for
    each of its edges and of its cycles. What the allocator and the system do with long lists comes on top. */
@@ -270,8 +286,8 @@ void goodlock_report_free(goodlock_report *report);
 uint32_t goodlock_record(goodlock_lane *lane, uint32_t kind, uint32_t operand, uint32_t place, uint32_t *at);
 
 /* Ends the recording.
-   OK: the thread records no more; hand the lane in. FULL: call again once the session has pulled. UNCONFIRMED:
-   the session is gone; free the lane. MISUSE. */
+   OK: the thread records no more; hand the lane in. FULL: call again once the session has pulled. UNCONFIRMED: the
+   session is gone, whether there was room or not, and the thread records no more; free the lane. MISUSE. */
 uint32_t goodlock_close(goodlock_lane *lane);
 
 #ifdef __cplusplus

@@ -419,8 +419,143 @@ static void orphans(void)
     expect("a record after it", goodlock_release(&lanes[1], 1, 0), GOODLOCK_MISUSE);
     expect("a record of a freed session's lane", goodlock_acquire(&lanes[0], 0, 0), GOODLOCK_OK);
     expect("a close of a freed session's lane", goodlock_close(&lanes[0]), GOODLOCK_UNCONFIRMED);
+    expect("a close of a lane that is gone", goodlock_close(&lanes[0]), GOODLOCK_MISUSE);
     goodlock_lane_free(&lanes[0]);
     goodlock_lane_free(&lanes[1]);
+}
+
+/* Lanes that nobody used are ended, too, before a session is settled; none is given out twice. */
+static void unused_lanes(void)
+{
+    goodlock_session session = {NULL};
+    goodlock_lane lane = {NULL};
+    uint32_t thread, count = 0, missing = 77;
+    expect("open", goodlock_open(next_session(), 5, 1, &session), GOODLOCK_OK);
+    expect("lane", goodlock_lane_open(&session, &lane, &thread), GOODLOCK_OK);
+    end_lane(&session, &lane);
+    expect("settle with four lanes left", goodlock_settle(&session, &missing), GOODLOCK_MISSING);
+    check(missing == 1, "thread 1 has no lane yet");
+    while (goodlock_lane_open(&session, &lane, &thread) == GOODLOCK_OK) {
+        check(thread == ++count, "the lanes that are left are those of the next threads");
+        end_lane(&session, &lane);
+    }
+    check(count == 4, "four lanes were left");
+    expect("a sixth lane", goodlock_lane_open(&session, &lane, &thread), GOODLOCK_NO_LANE);
+    missing = 77;
+    expect("settle", goodlock_settle(&session, &missing), GOODLOCK_OK);
+    check(missing == 77, "no thread is missing");
+    goodlock_session_free(&session);
+}
+
+/* What a call would write is as it was where it isn't done. */
+static void nothing_written(void)
+{
+    goodlock_session session, none = {NULL};
+    goodlock_lane lanes[2], third = {NULL};
+    goodlock_report report = {NULL};
+    goodlock_pulled pulled = {7, 7};
+    uint32_t at = 77;
+    size_t size = 77;
+    bool more = true;
+    uint8_t buffer[100] = {77};
+    open_two(&session, lanes, 4);
+    expect("a third lane", goodlock_lane_open(&session, &third, &at), GOODLOCK_NO_LANE);
+    expect("a lane in use", goodlock_lane_open(&session, &lanes[0], &at), GOODLOCK_MISUSE);
+    expect("a lock", number(goodlock_lock, &none, "a", &at), GOODLOCK_MISUSE);
+    expect("a place", number(goodlock_place, &none, "a", &at), GOODLOCK_MISUSE);
+    expect("settle of no session", goodlock_settle(&none, &at), GOODLOCK_MISUSE);
+    check(at == 77, "no number is written");
+    expect("text of no report", goodlock_text(&session, &report, buffer, sizeof buffer, &size), GOODLOCK_MISUSE);
+    expect("JSON of no report", goodlock_json(&session, &report, buffer, sizeof buffer, &size), GOODLOCK_MISUSE);
+    expect("cycles of no report", goodlock_cycles(&report, &size, &more), GOODLOCK_MISUSE);
+    check(size == 77 && more && buffer[0] == 77, "no text and no size is written");
+    expect("report", goodlock_report_so_far(&session, 2, 4, 10, &report), GOODLOCK_OK);
+    size = 77;
+    expect("text of no session", goodlock_text(&none, &report, buffer, sizeof buffer, &size), GOODLOCK_MISUSE);
+    check(size == 77 && buffer[0] == 77, "no text is written");
+    expect("text that doesn't fit", goodlock_text(&session, &report, buffer, 9, &size), GOODLOCK_OK);
+    check(size == 10 && buffer[0] == 77, "a text that doesn't fit isn't written, and its length is");
+    expect("pull of no session", goodlock_pull(&none, 1, &pulled), GOODLOCK_MISUSE);
+    check(pulled.events == 0 && pulled.ended == 0, "how many were pulled is written in every case");
+    pulled.events = pulled.ended = 7;
+    expect("pull of no lane", goodlock_pull_lane(&session, 2, 1, &pulled), GOODLOCK_RANGE);
+    check(pulled.events == 0 && pulled.ended == 0, "how many were pulled off a lane is written in every case");
+    acquire_two(&lanes[0], 0, 1);
+    expect("pull of nothing", goodlock_pull(&session, 0, &pulled), GOODLOCK_OK);
+    check(pulled.events == 0 && pulled.ended == 0, "none was asked for, and none is pulled, though there are some");
+    goodlock_report_free(&report);
+    goodlock_lane_free(&lanes[0]);
+    goodlock_lane_free(&lanes[1]);
+    goodlock_session_free(&session);
+}
+
+/* Forks and joins that order a thread before itself: no report any more, in no mode. */
+static void inconsistent(void)
+{
+    goodlock_session session;
+    goodlock_lane lanes[2];
+    goodlock_report report = {NULL};
+    uint32_t at;
+    open_two(&session, lanes, 8);
+    expect("join", goodlock_join(&lanes[0], 1, 0), GOODLOCK_OK);
+    expect("fork", goodlock_fork(&lanes[0], 1, 0), GOODLOCK_OK);
+    pull_all(&session);
+    for (uint32_t mode = 0; mode < 3; mode++)
+        expect("so far", goodlock_report_so_far(&session, mode, 4, 10, &report), GOODLOCK_INCONSISTENT);
+    acquire_two(&lanes[1], 0, 1);
+    for (int i = 0; i < 2; i++)
+        end_lane(&session, &lanes[i]);
+    expect("so far, and later", goodlock_report_so_far(&session, 2, 4, 10, &report), GOODLOCK_INCONSISTENT);
+    expect("settle", goodlock_settle(&session, &at), GOODLOCK_OK);
+    for (uint32_t mode = 0; mode < 3; mode++) {
+        expect("settled", goodlock_settled_report(&session, mode, 4, 10, &report), GOODLOCK_INCONSISTENT);
+        expect("by mention", goodlock_report_by_mention(&session, mode, 4, 10, &report), GOODLOCK_INCONSISTENT);
+    }
+    check(report.at == NULL, "there is no report");
+    goodlock_session_free(&session);
+}
+
+struct counted {
+    goodlock_report report;
+    size_t cycles;
+    uint32_t code;
+};
+
+static void *count_and_free(void *argument)
+{
+    struct counted *const counted = (struct counted *)argument;
+    bool more;
+    counted->code = goodlock_cycles(&counted->report, &counted->cycles, &more);
+    goodlock_report_free(&counted->report);
+    return NULL;
+}
+
+/* Reports without their session: they are counted and freed on another thread, but have no text. */
+static void reports_alone(void)
+{
+    goodlock_session session;
+    goodlock_lane lanes[2];
+    struct counted reports[2] = {{{NULL}, 0, 99}, {{NULL}, 0, 99}};
+    uint8_t buffer[1000];
+    size_t size;
+    uint32_t at;
+    open_two(&session, lanes, 8);
+    acquire_two(&lanes[0], 0, 1);
+    acquire_two(&lanes[1], 1, 0);
+    for (int i = 0; i < 2; i++)
+        end_lane(&session, &lanes[i]);
+    expect("settle", goodlock_settle(&session, &at), GOODLOCK_OK);
+    expect("settled", goodlock_settled_report(&session, 2, 4, 10, &reports[0].report), GOODLOCK_OK);
+    expect("by mention", goodlock_report_by_mention(&session, 2, 4, 10, &reports[1].report), GOODLOCK_OK);
+    goodlock_session_free(&session);
+    for (int i = 0; i < 2; i++) {
+        pthread_t thread;
+        expect("text", goodlock_text(&session, &reports[i].report, buffer, sizeof buffer, &size), GOODLOCK_MISUSE);
+        check(pthread_create(&thread, NULL, count_and_free, &reports[i]) == 0, "a thread is started");
+        pthread_join(thread, NULL);
+        expect("cycles on another thread", reports[i].code, GOODLOCK_OK);
+        check(reports[i].cycles == 1 && reports[i].report.at == NULL, "it has one cycle, and is freed");
+    }
 }
 
 /* ---- Limits */
@@ -687,6 +822,10 @@ int main(int count, char **words)
         settling();
         places();
         orphans();
+        unused_lanes();
+        nothing_written();
+        inconsistent();
+        reports_alone();
     } else if (strcmp(word, "limits") == 0) {
         held_locks();
         deep_lock();
