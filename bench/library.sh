@@ -1,7 +1,8 @@
 #!/bin/bash
 # Times the C library: a record alone and with a collector beside it, a pull, a report, what a lane takes, and the number of a
-# name that is known; beside a mutex that no other thread wants, in the same run. Each row is measured in a process of its own that has
-# a second thread, as programs that record have. Prints a table.
+# name that is known. Each row is measured in a process of its own that has a second thread, as programs that record have; where it
+# is of records or names, a mutex that no other thread wants is measured there, too, by turns with them: so how many such mutexes
+# a record costs is told while other programs run, too. Prints a table.
 #
 #     bench/library.sh
 #

@@ -15,7 +15,7 @@
 #include <time.h>
 #include <unistd.h>
 
-enum { ROUNDS = 2000, ALONE = 1000, TOGETHER = 500000 };
+enum { PAIRS = 2000000, ALONE = 1000, ALONE_ROUNDS = 500, TOGETHER = 500000 };
 
 static void check(uint32_t code)
 {
@@ -60,15 +60,27 @@ static void pull_all(goodlock_session *session)
     while (pulled.events > 0);
 }
 
-static double mutex_pair(void)
+static double mutex_pair(int pairs)
 {
     pthread_mutex_t mutex = PTHREAD_MUTEX_INITIALIZER;
     const double start = now();
-    for (int i = 0; i < ROUNDS * ALONE; i++) {
+    for (int i = 0; i < pairs; i++) {
         pthread_mutex_lock(&mutex);
         pthread_mutex_unlock(&mutex);
     }
-    return (now() - start) / (ROUNDS * ALONE);
+    return (now() - start) / pairs;
+}
+
+static int is_longer(const void *one, const void *other)
+{
+    const double a = *(const double *)one, b = *(const double *)other;
+    return (a > b) - (a < b);
+}
+
+static double median(double *times, int count)
+{
+    qsort(times, (size_t)count, sizeof *times, is_longer);
+    return times[count / 2];
 }
 
 static size_t memory(void)
@@ -77,27 +89,30 @@ static size_t memory(void)
     return now.uordblks + now.hblkhd;
 }
 
-/* Acquires and releases of one more lock by a thread that holds so many, and pulls of both: nanoseconds, and what is
- * kept. */
-static void record_alone(uint32_t others, int rounds)
+/* Acquires and releases of one more lock by a thread that holds so many, and pulls of both: nanoseconds, what is kept,
+ * and the mutex pair. Each round has all of them. A record and a pair are the medians of the rounds, which other
+ * programs don't change; a pull is the mean, as now and then it has a list that grows. */
+static void record_alone(uint32_t others)
 {
+    static double recording[ALONE_ROUNDS], pair[ALONE_ROUNDS];
     goodlock_session session;
     goodlock_lane lane;
     goodlock_pulled pulled;
-    double recording = 0, pulling = 0, kept;
+    double pulling = 0, kept;
     size_t before;
     open_one(&session, &lane, 2 * ALONE + 100);
     for (uint32_t lock = 1; lock <= others; lock++)
         check(goodlock_acquire(&lane, lock, 0));
     pull_all(&session);
     before = memory();
-    for (int i = 0; i < rounds; i++) {
+    for (int i = 0; i < ALONE_ROUNDS; i++) {
         double start = now();
         for (int k = 0; k < ALONE; k++) {
             check(goodlock_acquire(&lane, 0, 0));
             check(goodlock_release(&lane, 0, 0));
         }
-        recording += now() - start;
+        recording[i] = (now() - start) / (2 * ALONE);
+        pair[i] = mutex_pair(ALONE);
         start = now();
         check(goodlock_pull_lane(&session, 0, 2 * ALONE, &pulled));
         pulling += now() - start;
@@ -106,9 +121,10 @@ static void record_alone(uint32_t others, int rounds)
     }
     kept = (double)(memory() - before);
     close_one(&session, &lane);
-    printf("| %u other locks held: a record, nobody pulls; a pull of it; what the session keeps of it "
-           "| %.0f ns; %.0f ns; %.0f bytes |\n",
-           others, recording / rounds / (2 * ALONE), pulling / rounds / (2 * ALONE), kept / rounds / (2 * ALONE));
+    printf("| %u other locks held: a record, nobody pulls; a pull of it; what the session keeps of it; beside them the "
+           "mutex pair | %.0f ns; %.0f ns; %.0f bytes; %.0f ns |\n",
+           others, median(recording, ALONE_ROUNDS), pulling / ALONE_ROUNDS / (2 * ALONE),
+           kept / ALONE_ROUNDS / (2 * ALONE), median(pair, ALONE_ROUNDS));
 }
 
 /* ---- With a collector beside it */
@@ -160,10 +176,10 @@ static double paced(goodlock_lane *lane, double pace, unsigned long *waits)
     return (now() - start) / pairs;
 }
 
-/* The least of three. */
+/* The least of three, with the mutex pair between them. */
 static void record_beside(const char *name, double pace, uint32_t ring, unsigned sleep)
 {
-    double plain = 1e9, recorded = 1e9;
+    double plain = 1e9, recorded = 1e9, pair = 1e9;
     unsigned long waits = 0;
     for (int round = 0; round < 3; round++) {
         goodlock_session session;
@@ -171,7 +187,7 @@ static void record_beside(const char *name, double pace, uint32_t ring, unsigned
         struct beside beside = {.session = &session, .sleep = sleep};
         pthread_t collector;
         unsigned long waited = 0;
-        const double alone = paced(NULL, pace, &waited);
+        const double alone = paced(NULL, pace, &waited), mutex = mutex_pair(TOGETHER);
         double together;
         open_one(&session, &lane, ring);
         pthread_create(&collector, NULL, collect, &beside);
@@ -180,12 +196,14 @@ static void record_beside(const char *name, double pace, uint32_t ring, unsigned
         pthread_join(collector, NULL);
         close_one(&session, &lane);
         plain = alone < plain ? alone : plain;
+        pair = mutex < pair ? mutex : pair;
         if (together < recorded) {
             recorded = together;
             waits = waited;
         }
     }
-    printf("| %s, a ring of %u | %.0f ns more for a pair, %lu waits for room |\n", name, ring, recorded - plain, waits);
+    printf("| %s, a ring of %u; beside it the mutex pair | %.0f ns more for a pair, %lu waits for room; %.0f ns |\n",
+           name, ring, recorded - plain, waits, pair);
 }
 
 /* ---- Memory and reports */
@@ -256,7 +274,7 @@ static void names_known(void)
             sum += number;
         }
         start[3] = now();
-        start[4] = start[3] + mutex_pair() * NAMES * NAMED;
+        start[4] = start[3] + mutex_pair(PAIRS) * NAMES * NAMED;
         for (int way = 0; way < 4; way++) {
             const double taken = (start[way + 1] - start[way]) / (NAMES * NAMED);
             least[way] = taken < least[way] ? taken : least[way];
@@ -278,22 +296,22 @@ static void measure(int row)
 {
     switch (row) {
     case 0:
-        printf("| an uncontended pthread mutex, locked and unlocked | %.0f ns |\n", mutex_pair());
+        printf("| an uncontended pthread mutex, locked and unlocked | %.0f ns |\n", mutex_pair(PAIRS));
         break;
     case 1:
-        record_alone(0, 500);
+        record_alone(0);
         break;
     case 2:
-        record_alone(1, 500);
+        record_alone(1);
         break;
     case 3:
-        record_alone(2, 500);
+        record_alone(2);
         break;
     case 4:
-        record_alone(32, 500);
+        record_alone(32);
         break;
     case 5:
-        record_alone(63, 500);
+        record_alone(63);
         break;
     case 6:
         record_beside("lock and unlock at full speed, a collector beside it", 0, 4096, 20000);
