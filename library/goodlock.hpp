@@ -19,7 +19,7 @@
 //   at a place, the first lock of a mutex and the start of a thread wait for the session's own mutex. Where a lane
 //   is full the thread yields until the collecting thread has pulled: a larger ring makes that rare.
 // - What can't be recorded (more threads than lanes, an event that is refused, as the unlock of a mutex that was locked before
-//   start()) is counted in `unrecorded`, and the lock works all the same.
+//   start(), a lock at whose first use the session has no memory for its name) is counted in `unrecorded`, and the lock works all the same.
 // - After fork() in the child: none of this, only _exit or exec. Not from signal handlers, nor in a memory allocator.
 #ifndef GOODLOCK_HPP
 #define GOODLOCK_HPP
@@ -295,15 +295,20 @@ inline void record(uint32_t kind, uint32_t operand, const line *here) {
         all.unrecorded++;
 }
 
-// A lock's name, and its number from its first use on.
+// A lock's name, and its number from its first use on: NONE where memory was refused to the session then. It isn't
+// recorded in that case, as no lock may have the number of another one.
 class numbered {
 public:
     numbered(std::string given) : name(std::move(given)) {}
     numbered(const line &here) : name("mutex@" + text(here) + "#" + std::to_string(++world::get().made)) {}
 
     void record(uint32_t kind, const line &here) {
-        if (world::get().is_open())
-            detail::record(kind, get(), &here);
+        if (!world::get().is_open())
+            return;
+        if (get() == NONE)
+            world::get().unrecorded++;
+        else
+            detail::record(kind, number, &here);
     }
 
 private:

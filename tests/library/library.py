@@ -481,9 +481,9 @@ class Tests:
         source = HERE / "wrapper.cc"
         environment = {**os.environ, "TSAN_OPTIONS": "detect_deadlocks=0"}
         for name, words in SANITIZERS.items():
-            c = ["g++", "-std=c++17", "-O1", "-g", *STRICT, f"-I{HEADERS}", *words, source, ARCHIVE, "-lpthread"]
-            if self.build(f"wrapper_{name}", *c):
-                for word in ("locks", "names", "threads", "leave"):
+            c = ["g++", "-std=c++17", "-O1", "-g", *STRICT, f"-I{HEADERS}", *words, source, ARCHIVE, *WRAPS]
+            if self.build(f"wrapper_{name}", *c, "-lpthread"):
+                for word in ("locks", "names", "memory", "threads", "leave"):
                     self.counted(f"wrapper, {word}, {name}", f"wrapper_{name}", word, env=environment)
 
     # --- Names
@@ -609,8 +609,8 @@ class Tests:
                     self.counted(f"debug, names, {word}, {name}", f"debug_names_{name}", word)
             if name == "address":  # its compiler takes half a minute for this file
                 continue
-            if self.build(f"debug_wrapper_{name}", "g++", "-std=c++17", HERE / "wrapper.cc", *rest):
-                for word in ("locks", "names", "threads"):
+            if self.build(f"debug_wrapper_{name}", "g++", "-std=c++17", HERE / "wrapper.cc", *rest, *WRAPS):
+                for word in ("locks", "names", "memory", "threads"):
                     self.counted(f"debug, wrapper, {word}, {name}", f"debug_wrapper_{name}", word, env=environment)
                 self.left(f"debug, wrapper, leave, {name}", 1, f"debug_wrapper_{name}", "leave")
         for source, compiler, right in (("bank.c", "gcc", BY_NAME), ("named.c", "gcc", BY_ADDRESS)):

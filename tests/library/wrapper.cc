@@ -2,11 +2,14 @@
 //
 //     library_wrapper locks       known reports of each kind of lock
 //     library_wrapper names       locks of one name, and of a name that tells such ones apart
+//     library_wrapper memory      locks that get no number, as memory is refused
 //     library_wrapper threads     many threads with small rings, of which some have no lane
 //     library_wrapper leave       main returns without finish(), while a thread records
 //
-// What isn't as it has to be is told; the last line is how many checks passed and failed.
+// Memory is refused by the linker's --wrap of malloc, calloc, realloc and aligned_alloc. What isn't as it has to be is
+// told; the last line is how many checks passed and failed.
 #include "goodlock.hpp"
+#include "refusing.h"
 
 #include <condition_variable>
 #include <cstdio>
@@ -82,6 +85,11 @@ static const char *const TOLD_APART = "cycle 1: 2 edges\n"
                                       "  T4 holds shelf#4 since wrapper:2 wants shelf#3 at wrapper:3\n"
                                       "cycles: 2\n";
 
+static const char *const OF_TWO = "cycle 1: 2 edges\n"
+                                  "  T3 holds c since wrapper:2 wants d at wrapper:3\n"
+                                  "  T4 holds d since wrapper:2 wants c at wrapper:3\n"
+                                  "cycles: 1\n";
+
 template <class M, class N> static void opposite(M &one, N &other)
 {
     one_by_one(
@@ -98,7 +106,7 @@ template <class M, class N> static void opposite(M &one, N &other)
             one.unlock();
         });
 }
-#line 102 "tests/library/wrapper.cc"
+#line 110 "tests/library/wrapper.cc"
 
 static void locks()
 {
@@ -137,7 +145,7 @@ static void locks()
             goodlock::guard<goodlock::shared_mutex> first(w);
             r.lock();
             r.unlock();
-#line 141 "tests/library/wrapper.cc"
+#line 149 "tests/library/wrapper.cc"
         });
     goodlock::recursive_mutex x, y;
     in_a_thread([&] { std::lock_guard<goodlock::recursive_mutex> first(x), again(x), second(y); });
@@ -176,6 +184,30 @@ static void names()
     check(result.code == GOODLOCK_OK && result.is_settled && result.unrecorded == 0, "the report is settled");
     check(result.cycles == 2, "there are two cycles");
     check(result.text == TOLD_APART, "another text:\n" + result.text);
+}
+
+// Two locks that got no number aren't one lock: they aren't recorded, which is told. Others are.
+static void memory()
+{
+    check(goodlock::start(24, 64) == GOODLOCK_OK, "start");
+    goodlock::mutex one("one"), two("two"), c("c"), d("d");
+    is_onwards = true;
+    for (goodlock::mutex *lock : {&one, &two}) {
+        requests = 0;
+        refuse_at = 1;
+        was_refused = false;
+        is_counted = true;
+        lock->lock();
+        is_counted = false;
+        lock->unlock();
+        check(was_refused, "memory is refused to the name of a lock");
+    }
+    opposite(one, two);
+    opposite(c, d);
+    const goodlock::result result = goodlock::finish();
+    check(result.code == GOODLOCK_OK && result.is_settled, "the report is settled");
+    check(result.unrecorded == 12, std::to_string(result.unrecorded) + " events weren't recorded, and 12 are right");
+    check(result.text == OF_TWO, "another text:\n" + result.text);
 }
 
 static void threads()
@@ -225,6 +257,8 @@ int main(int count, char **words)
         locks();
     else if (word == "names")
         names();
+    else if (word == "memory")
+        memory();
     else if (word == "threads")
         threads();
     else if (word == "leave")
