@@ -267,15 +267,16 @@ uint32_t goodlock_cycles(goodlock_report *report, size_t *cycles, bool *more);
    so. A session may be freed while threads record: their calls go on answering, a record FULL in the end and for ever,
    and a close UNCONFIRMED. Whoever waits for room for an event asks something of its own whether the session is still
    there. A lane may be freed at any time; the session can't be settled then.
-   They take no memory. A session: a step for each thread and for each name; a lane: a few steps. Where both are freed,
-   the later call takes a step for each note that is left in the ring, too, and gives that back. A report: a step for
-   each of its edges and of its cycles. What the allocator and the system do with long lists comes on top. */
+   They take no memory. A session: a step for each thread and for each name; a lane: a few steps. Of a session that is
+   freed and a lane of it that is closed or freed the later call takes a step for each note that is left in the ring,
+   too, and gives that back. A report: a step for each of its edges and of its cycles. What the allocator and the system
+   do with long lists comes on top. */
 void goodlock_session_free(goodlock_session *session);
 void goodlock_lane_free(goodlock_lane *lane);
 void goodlock_report_free(goodlock_report *report);
 
 /* ---- The lane. These calls are made on the thread whose lane it is (or one at a time: see the promises). They
-   never wait, take no memory and make no system call. */
+   never wait, take no memory and make no system call, but for a close that answers UNCONFIRMED. */
 
 /* Records the thread's next event. *at is its place in the thread's list: how many were recorded before. Where the
    event may not come next, and where there is no room, it is the place that it would have had; RANGE and MISUSE
@@ -287,7 +288,8 @@ uint32_t goodlock_record(goodlock_lane *lane, uint32_t kind, uint32_t operand, u
 
 /* Ends the recording.
    OK: the thread records no more; hand the lane in. FULL: call again once the session has pulled. UNCONFIRMED: the
-   session is gone, whether there was room or not, and the thread records no more; free the lane. MISUSE. */
+   session is gone, whether there was room or not, and the thread records no more; free the lane. The ring is given back
+   then: a step for each note that is left in it, and what the allocator and the system do with it. MISUSE. */
 uint32_t goodlock_close(goodlock_lane *lane);
 
 #ifdef __cplusplus
