@@ -472,7 +472,9 @@ class Names:
     def __init__(self, process, sources):
         self.process = process
         self.places = Places(process, sources)
-        self.counts = Counter(process.parent.names.counts) if process.parent else Counter()
+        self.counts = process.parent.names.counts_of(process.first_lock) if process.parent else Counter()
+        self.inherited_counts = Counter(self.counts)
+        self.counted = {}  # by lock: what was counted for its name, and how far
         self.locks = {}
         self.name_threads()
         self.order = sorted(process.threads.values(), key=lambda thread: thread.path)
@@ -538,13 +540,11 @@ class Names:
         made = [lock for lock in own.values() if lock.made]
         for lock in sorted(made, key=lambda lock: (rank.get(lock.thread, len(rank)), lock.order)):
             if lock.number not in self.locks:
-                self.locks[lock.number] = self.name_by_place(lock, lock.site, self.thread_name(lock.thread))
+                self.name_by_place(lock.number, lock, lock.site, self.thread_name(lock.thread))
         for thread, word in firsts:
             number = word >> OBJECT_SHIFT
             if number not in self.locks:
-                lock = own.get(number) or self.parents_lock(number)
-                site = word >> SITE_SHIFT & SITE_MASK
-                self.locks[number] = self.inherited(number) or self.name_by_place(lock, site, self.thread_name(thread))
+                self.name_found(number, word >> SITE_SHIFT & SITE_MASK, self.thread_name(thread))
             self.used += 1
 
     used = 0  # how many locks have an event
@@ -552,6 +552,14 @@ class Names:
     def thread_name(self, number):
         thread = self.process.threads.get(number)
         return thread.name if thread else "?"
+
+    def name_found(self, number, site, thread):
+        """A lock that nobody made: its parent's name for it, or one by its first use."""
+        name = self.inherited(number)
+        if name:
+            self.locks[number] = name
+        else:
+            self.name_by_place(number, self.process.locks.get(number) or self.parents_lock(number), site, thread)
 
     def inherited(self, number):
         parent = self.process.parent
@@ -589,18 +597,32 @@ class Names:
             if lock.name:
                 self.name_counted(lock, lock.name)
 
-    def name_counted(self, lock, name):
+    def count(self, number, name):
+        """How many locks have this name so far, with the one of this number."""
         self.counts[name] += 1
-        count = self.counts[name]
+        self.counted[number] = name, self.counts[name]
+        return self.counts[name]
+
+    def counts_of(self, first_lock):
+        """How far names are counted of the locks below this number. A child goes on from there: what its parent counts after the
+        fork is none of its own. (Such a lock may have a higher number than one after the fork, so how many there are doesn't do.)
+        """
+        counts = Counter(self.inherited_counts)
+        for number, (name, count) in self.counted.items():
+            if number < first_lock:
+                counts[name] = max(counts[name], count)
+        return counts
+
+    def name_counted(self, lock, name):
+        count = self.count(lock.number, name)
         self.locks[lock.number] = clean(name if count == 1 else "%s#%d" % (name, count))
 
-    def name_by_place(self, lock, site, thread):
+    def name_by_place(self, number, lock, site, thread):
         """kind@file:line#count, with the thread's name where it isn't the first thread."""
         base = "%s@%s#" % (lock.kind if lock else "lock", self.places.text_without_functions(site))
         if thread != "main":
             base += thread.split(":", 1)[0] + ":"
-        self.counts[base] += 1
-        return clean("%s%d" % (base, self.counts[base]))
+        self.locks[number] = clean("%s%d" % (base, self.count(number, base)))
 
 
 def routine_name(symbol, readable):

@@ -649,6 +649,38 @@ static void forks(void)
     pthread_mutex_unlock(made);                                                /* @forks_made_end */
 }
 
+static pthread_mutex_t *find(void)
+{
+    pthread_mutex_t *lock = malloc(sizeof *lock);
+    *lock = (pthread_mutex_t)PTHREAD_MUTEX_INITIALIZER;
+    return lock;
+}
+
+static void *takes(void *lock)
+{
+    pthread_mutex_lock(lock);                                                  /* @takes */
+    pthread_mutex_unlock(lock);                                                /* @takes_end */
+    return NULL;
+}
+
+/* After the fork the parent does what its child does. */
+static void parent_goes_on(void)
+{
+    pthread_mutex_t *met = find(), *later = find();
+    pthread_t thread;
+    pthread_create(&thread, NULL, takes, met);                                 /* @goes_on_1 */
+    pthread_join(thread, NULL);                                                /* @goes_on_2 */
+    pid_t child = fork();
+    takes(later);
+    takes(met);
+    takes(&b);
+    takes(make());
+    if (child == 0)
+        _exit(0);
+    printf("%d\n", child);
+    waitpid(child, NULL, 0);
+}
+
 /* A child that no handler of a fork sees. */
 static void raw_fork(void)
 {
@@ -796,7 +828,7 @@ static const struct {
     {"many_locks", many_locks}, {"waits_in_background", waits_in_background}, {"stray", stray}, {"keys", keys}, {"signals", signals}, {"signal_storm", signal_storm},
     {"repeats", repeats}, {"volume", volume}, {"volume_and_wait", volume_and_wait}, {"volume_and_thread", volume_and_thread},
     {"many_threads", many_threads}, {"forks", forks},
-    {"raw_fork", raw_fork}, {"executes", executes}, {"clears_environment", clears_environment},
+    {"parent_goes_on", parent_goes_on}, {"raw_fork", raw_fork}, {"executes", executes}, {"clears_environment", clears_environment},
     {"goes_to_background", goes_to_background}, {"waits_for_signal", waits_for_signal}, {"frames", frames}, {"frames_vary", frames_vary},
     {"table", table}, {"nothing", nothing},
 };

@@ -41,6 +41,45 @@ def test_forked_process():
     )
 
 
+def test_names_in_a_child_are_none_of_what_its_parent_does_later():
+    """Only what was counted before the fork goes on: the lock that main.1 met has the second place of the parent's main, and so the
+    child's next one there is the third."""
+    run = record("./locks", "parent_goes_on")
+    assert run.status == 0, run.said
+    compare(
+        run.lines(),
+        known(
+            """
+        main|fork(main.1:takes)|@goes_on_1
+        main|join(main.1:takes)|@goes_on_2
+        main|acq(mutex@@takes#1)|@takes
+        main|rel(mutex@@takes#1)|@takes_end
+        main|acq(mutex@@takes#2)|@takes
+        main|rel(mutex@@takes#2)|@takes_end
+        main|acq(b)|@takes
+        main|rel(b)|@takes_end
+        main|acq(mutex@@make#1)|@takes
+        main|rel(mutex@@make#1)|@takes_end
+        main.1:takes|acq(mutex@@takes#2)|@takes
+        main.1:takes|rel(mutex@@takes#2)|@takes_end"""
+        ),
+    )
+    compare(
+        run.lines("." + run.out.strip()),
+        known(
+            """
+        main|acq(mutex@@takes#3)|@takes
+        main|rel(mutex@@takes#3)|@takes_end
+        main|acq(mutex@@takes#2)|@takes
+        main|rel(mutex@@takes#2)|@takes_end
+        main|acq(b)|@takes
+        main|rel(b)|@takes_end
+        main|acq(mutex@@make#1)|@takes
+        main|rel(mutex@@make#1)|@takes_end"""
+        ),
+    )
+
+
 def test_process_forked_past_the_library():
     run = record("./locks", "raw_fork")
     assert run.status == 0, run.said
