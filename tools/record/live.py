@@ -50,9 +50,10 @@ CODES = {
     25: "a lock was taken too often by a thread that held it",
 }
 
-# Seconds: between two looks at the files, and until a report is made of what is never quiet. A look takes a tenth of the time
-# at most.
+# Seconds: between two looks at the files, that threads wait for each other before it counts as a hang, and until a report is made
+# of what is never quiet. A look takes a tenth of the time at most.
 LOOK = 0.5
+HANG = 0.5
 UNQUIET = 10
 SHARE = 10
 END_LIMIT = 5
@@ -60,12 +61,16 @@ END_LIMIT = 5
 
 # --- The copy of the events ------------------------------------------------------------------------------
 
+# Of each thread that waits: its number, the word of its acquire, who has the lock, and two numbers that tell how far it is.
+WAIT_WORDS = 5
+
 
 class Copied:
-    """What goodlock_live copied of one process: where its events and tables are, a hash of the events, and threads that wait for
-    each other."""
+    """What goodlock_live copied of one process: where its events and tables are, a hash of the events, threads that wait for each
+    other, and between which moments."""
 
-    def __init__(self, words, extents, path):
+    def __init__(self, words, extents, path, began, ended):
+        self.began, self.ended = began, ended
         self.tables = [(next(words), extents[next(words)], next(words)) for _ in range(next(words))]
         self.chunks = []  # as convert.read_events
         for order in range(next(words)):
@@ -73,7 +78,7 @@ class Copied:
             if count:
                 self.chunks.append((thread, order, path, offset, count))
         self.hash = next(words)
-        self.round = [(next(words), next(words), next(words)) for _ in range(next(words))]
+        self.round = [tuple(next(words) for _ in range(WAIT_WORDS)) for _ in range(next(words))]
 
 
 def copy_events(recording):
@@ -86,9 +91,31 @@ def copy_events(recording):
         request += [array("Q", [len(paths)]).tobytes()] + [packed_text(path) for path in paths]
     path = recording.work_file("copy")
     answer = array("Q")
+    began = time.monotonic()
     answer.frombytes(run_program("goodlock_live", ["copy", path], b"".join(request)))
+    ended = time.monotonic()
     words = iter(answer)
-    return {key: Copied(words, paths, path) for key, paths in extents.items()}
+    return {key: Copied(words, paths, path, began, ended) for key, paths in extents.items()}
+
+
+def last_copy(recording, running):
+    """The same at the end. In a process that still runs threads are copied at different moments: that they wait for each other counts
+    where they did so half a second before."""
+    before = copy_events(recording)
+    waiting = [key for key, copy in before.items() if copy.round and is_among(key, running)]
+    if not waiting:
+        return before
+    time.sleep(HANG)
+    copied = copy_events(recording)
+    for key, copy in copied.items():
+        if is_among(key, running) and copy.round != (before[key].round if key in waiting else []):
+            copy.round = []
+    return copied
+
+
+def is_among(key, running):
+    """Whether it is a process of these, which are told as numbers or as texts."""
+    return str(key[0]) in map(str, running)
 
 
 def read_tables(tables):
@@ -221,7 +248,7 @@ def plain(name):
 def round_text(process, found):
     """Who waits for whom."""
     parts = []
-    for thread, word, holder in found:
+    for thread, word, holder, *_ in found:
         lock = process.names.locks.get(word >> OBJECT_SHIFT, "?")
         place = process.names.places.text(word >> SITE_SHIFT & SITE_MASK)
         who = "itself" if thread == holder else process.names.thread_name(holder)
@@ -240,8 +267,17 @@ class Followed:
         self.reported = None  # of those that the last report is of
         self.told = None  # those that the last line is of
         self.cycles = 0
-        self.round = None
+        self.round = []
+        self.since = None  # the threads of this round wait, and had no event
         self.hangs = None
+
+    def hangs_at(self, copy):
+        """Whether threads wait for each other and did so half a second before, without an event of theirs in between. However soon
+        looks follow each other: threads are copied one after the other, so that one look may see a round that never was.
+        """
+        if copy.round != self.round:
+            self.round, self.since = copy.round, copy.ended
+        return bool(copy.round) and copy.began >= self.since + HANG
 
 
 class Follower:
@@ -297,7 +333,7 @@ class Follower:
             followed = self.followed.setdefault(key, Followed())
             if copy.chunks:
                 due[key] = self.what_is_due(key, copy, followed, wants_lines)
-            followed.hash, followed.round = copy.hash, copy.round
+            followed.hash = copy.hash
         if not any(due.values()):
             return
         processes, _ = named_processes(self.recording, copied, self.modules, self.with_functions)
@@ -309,7 +345,7 @@ class Follower:
 
     def what_is_due(self, key, copy, followed, wants_lines):
         """Why a report is to be made of a process now, if it is."""
-        if copy.round and copy.round == followed.round and copy.round != followed.hangs:
+        if followed.hangs_at(copy) and copy.round != followed.hangs:
             return "hangs"
         if wants_lines and (copy.hash != followed.told or maps_file(key[0], self.token)):
             return "asked"
@@ -426,7 +462,7 @@ class LiveSummary(Summary):
 
     def settle(self, running, ended_by):
         """Says what stands against the report being that of all that the process does."""
-        if str(self.process.key[0]) in map(str, running):
+        if is_among(self.process.key, running):
             self.open = "the process still runs"
         elif ended_by:
             self.open = "signal %d ended the process" % ended_by
@@ -461,7 +497,7 @@ class LiveSummary(Summary):
 
 def report_recording(recording, path, first, running, ended_by, with_functions):
     """Writes the report of each process; what is said of each, the first process's first, and what was damaged."""
-    copied = copy_events(recording)
+    copied = last_copy(recording, running)
     processes, faults = named_processes(recording, copied, {}, with_functions)
     if first is None and processes:
         first = min(processes)[0]

@@ -11,7 +11,7 @@
  * It answers, for each process: the number of chunks of tables, each: order, extent, offset of the chunk; the number of
  * chunks of events, each: thread, offset in the copy, number of words; a hash of the events that stay, which changes
  * with each that is news; the number of threads that wait for each other, each: thread, the word of the acquire that
- * waits, the thread that has the lock. That of `report`:
+ * waits, the thread that has the lock, and two numbers that tell how far the thread is. That of `report`:
  *
  *     number of files;   a text each: the path
  *     number of locks that turned out to be none;   each: its number
@@ -243,16 +243,24 @@ static uint64_t version_of(const struct thread_record *record)
     return __atomic_load_n(&record->left_out, __ATOMIC_ACQUIRE) + __atomic_load_n(&record->others, __ATOMIC_ACQUIRE);
 }
 
+/* How far a thread is. The two are the same at two looks only if it had no event in between: each one that is stored
+ * adds to the one, and each that is taken back or lost to the other. */
+struct progress {
+    uint64_t stored, gone;
+};
+
 /* Copies the words of a thread's latest chunk as they were at one moment; how many. The words in front stay for ever;
  * those behind may be taken back and stored anew meanwhile, which the version tells: then they are read again. Should
  * that not end, what stays is the copy. `stay`: how many of the words stay. */
 static uint64_t words_copy(const struct place *place, const struct thread_record *record, uint64_t *copy,
-                           uint64_t *stay)
+                           uint64_t *stay, struct progress *progress)
 {
     const struct chunk *chunk = place->chunk;
     uint64_t done = 0;
     for (int i = 0; i < TRIES; i++) {
+        uint64_t lost = record ? __atomic_load_n(&record->lost, __ATOMIC_ACQUIRE) : 0;
         uint64_t version = record ? version_of(record) : 0;
+        progress->gone = lost + version;
         uint64_t kept = __atomic_load_n(&chunk->kept, __ATOMIC_ACQUIRE);
         uint64_t used = __atomic_load_n(&chunk->used, __ATOMIC_ACQUIRE);
         if (used > place->room)
@@ -279,6 +287,7 @@ struct wait {
     uint64_t word;
     uint32_t thread, on;
     int stays;
+    struct progress progress;
 };
 
 struct waits {
@@ -288,7 +297,8 @@ struct waits {
     struct locks strays; /* that some thread released which didn't hold it: so nobody knows who has it */
 };
 
-static void waits_add(struct waits *waits, const struct holding *holding, uint32_t thread)
+static void waits_add(struct waits *waits, const struct holding *holding, uint32_t thread,
+                      const struct progress *progress)
 {
     uint32_t wanted = (uint32_t)(holding->last >> OBJECT_SHIFT);
     unsigned kind = holding->last % KINDS;
@@ -307,7 +317,7 @@ static void waits_add(struct waits *waits, const struct holding *holding, uint32
         waits->wait_room = 2 * waits->wait_room + 64;
         waits->waits = memory(waits->waits, waits->wait_room * sizeof *waits->waits);
     }
-    waits->waits[waits->wait_count++] = (struct wait){holding->last, thread, 0, 1};
+    waits->waits[waits->wait_count++] = (struct wait){holding->last, thread, 0, 1, *progress};
 }
 
 static struct wait *wait_of(struct waits *waits, uint32_t thread)
@@ -338,9 +348,8 @@ static int wait_is_kept_up(struct waits *waits, struct wait *wait)
     return 0;
 }
 
-/* Leaves out those that wait for somebody who doesn't, until all that are left wait for each other; writes one round of
- * these. */
-static void waits_put(struct waits *waits)
+/* Leaves out those that wait for somebody who doesn't, until all that are left wait for each other. */
+static void waits_settle(struct waits *waits)
 {
     for (int changed = 1; changed;) {
         changed = 0;
@@ -350,18 +359,37 @@ static void waits_put(struct waits *waits)
                 changed = 1;
             }
     }
-    struct wait *first = NULL;
-    for (size_t i = 0; i < waits->wait_count && !first; i++)
+}
+
+/* The first thread, by birth, of a round that wait for each other; NULL if there is none. However many others wait for
+ * these, the round begins with the same thread. */
+static struct wait *round_start(struct waits *waits)
+{
+    struct wait *found = NULL;
+    for (size_t i = 0; i < waits->wait_count && !found; i++)
         if (waits->waits[i].stays)
-            first = &waits->waits[i];
-    for (size_t i = 0; first && i < waits->wait_count; i++)
-        first = wait_of(waits, first->on); /* after so many steps it is one of the round */
+            found = &waits->waits[i];
+    for (size_t i = 0; found && i < waits->wait_count; i++)
+        found = wait_of(waits, found->on); /* after so many steps it is one of the round */
+    struct wait *first = found;
+    for (size_t i = 0; found && i < waits->wait_count; i++) {
+        found = wait_of(waits, found->on);
+        if (found->thread < first->thread)
+            first = found;
+    }
+    return first;
+}
+
+static void waits_put(struct waits *waits)
+{
+    waits_settle(waits);
+    struct wait *first = round_start(waits);
     uint64_t count = 0;
     for (struct wait *wait = first; wait && (count == 0 || wait != first); wait = wait_of(waits, wait->on))
         count++;
     output_put((const char *)&count, sizeof count);
     for (struct wait *wait = first; count > 0; count--, wait = wait_of(waits, wait->on)) {
-        uint64_t answer[] = {wait->thread, wait->word, wait->on};
+        uint64_t answer[] = {wait->thread, wait->word, wait->on, wait->progress.stored, wait->progress.gone};
         output_put((const char *)answer, sizeof answer);
     }
 }
@@ -393,7 +421,8 @@ struct copied {
     uint64_t hash;
     uint64_t *words; /* of the present chunk */
     uint64_t room;
-    struct holding holding;
+    struct holding holding; /* and how far it is: of the present thread */
+    struct progress progress;
     struct waits waits;
 };
 
@@ -404,7 +433,8 @@ static void chunk_copy(const struct recorded *recorded, size_t i, struct copied 
     if (place->room > copied->room)
         copied->words = memory(copied->words, (copied->room = place->room) * 8);
     const struct thread_record *record = thread < recorded->thread_count ? recorded->threads[thread] : NULL;
-    uint64_t offset = copy_size, stay = 0, count = words_copy(place, record, copied->words, &stay);
+    uint64_t offset = copy_size, stay = 0;
+    uint64_t count = words_copy(place, record, copied->words, &stay, &copied->progress);
     int is_last = i + 1 == recorded->events.count || recorded->events.places[i + 1].chunk->thread != thread;
     copy_put(copied->words, count);
     uint64_t answer[] = {thread, offset, count};
@@ -418,9 +448,11 @@ static void chunk_copy(const struct recorded *recorded, size_t i, struct copied 
             locks_add(&copied->waits.strays, copied->words[at] >> OBJECT_SHIFT);
     }
     copied->hash = hash_step(copied->hash, (uint64_t)thread << 32 | stay);
+    copied->progress.stored += count;
     if (is_last) {
-        waits_add(&copied->waits, &copied->holding, thread);
+        waits_add(&copied->waits, &copied->holding, thread, &copied->progress);
         memset(&copied->holding, 0, sizeof copied->holding);
+        memset(&copied->progress, 0, sizeof copied->progress);
     }
 }
 

@@ -77,6 +77,30 @@ static void comes_later(void)
     pause();
 }
 
+static pthread_barrier_t each_holds_one;
+
+static void *holds(void *order)
+{
+    pthread_mutex_lock(order ? &a : &b);
+    pthread_barrier_wait(&each_holds_one);
+    pthread_mutex_lock(order ? &b : &a);
+    return NULL;
+}
+
+/* Two threads wait for each other, and when a line is read a third one waits for the first one's lock. */
+static void hangs(void)
+{
+    char line[16];
+    pthread_t threads[3];
+    pthread_barrier_init(&each_holds_one, NULL, 2);
+    for (long i = 0; i < 2; i++)
+        pthread_create(&threads[i], NULL, holds, (void *)i);
+    say_ready();
+    if (fgets(line, sizeof line, stdin))
+        pthread_create(&threads[2], NULL, other_way, NULL);
+    pause();
+}
+
 /* Opposite orders below a gate, of some locks and of others in turn. The locks aren't released in the order in which they were
  * taken: so what is left out is a whole round at once. */
 enum { MANY = 20 };
@@ -232,6 +256,7 @@ int main(int count, char **arguments)
     } programs[] = {
         {"waits", waits}, {"goes_on", goes_on}, {"comes_later", comes_later}, {"gates", gates}, {"churn", churn},
         {"own_signal", own_signal}, {"forks", forks}, {"repeats", repeats}, {"killed", killed}, {"races", races},
+        {"hangs", hangs},
     };
     number = count > 2 ? atoi(arguments[2]) : 0;
     for (size_t i = 0; count > 1 && i < sizeof programs / sizeof programs[0]; i++)

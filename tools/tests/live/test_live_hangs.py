@@ -1,0 +1,152 @@
+"""What counts as a hang: a circle of threads none of which did anything for half a second."""
+
+import os
+import struct
+import sys
+import time
+from types import SimpleNamespace
+
+import pytest
+from c_programs import end, raw_directory
+from following import Live
+from known_traces import TOOLS, wait_until_all_wait
+
+sys.path.insert(0, os.path.join(TOOLS, "record"))
+
+RECORD_THREAD = 5
+# Words of a thread's record, and where a chunk has the number of its words, before these (layout.h).
+FIELDS = {"left_out": 9, "lost": 10, "others": 11}
+USED = -16
+ACQUIRE, RELEASE = 1, 2
+CIRCLE = [(0, 1, 1, 7, 8), (1, 2, 0, 7, 8)]
+
+
+def left_hanging():
+    """The recording of two threads that hang, main and main.1; both are killed, and their recorder before them."""
+    from recording import Recording  # as a module of the recorder
+
+    live = Live("./locks", "deadlock").is_ready()
+    wait_until_all_wait(live.program)
+    live.process.kill()
+    live.end()
+    end(live.program)
+    return Recording(os.path.realpath(raw_directory("r.json")))
+
+
+def round_of(recording):
+    from live import copy_events
+
+    (copy,) = copy_events(recording).values()
+    assert copy.began <= copy.ended <= time.monotonic(), "the copy's moments"
+    return copy.round
+
+
+def chunks_of(recording, kind):
+    """Path, thread, offset of the words and the words of each chunk of this kind."""
+    from convert import read_chunks
+
+    for _, _, _, path in recording.extents():
+        for magic, thread, _, offset, words in read_chunks(path):
+            if magic == kind:
+                yield path, thread, offset, words.tolist()
+
+
+def write_words(path, offset, *words):
+    with open(path, "r+b") as file:
+        os.pwrite(file.fileno(), struct.pack("=%dQ" % len(words), *words), offset)
+
+
+def count_one(recording, field):
+    """One more of these in the record of thread 1."""
+    from convert import CHUNK_TABLE
+
+    for path, _, offset, words in chunks_of(recording, CHUNK_TABLE):
+        at = 0
+        while at < len(words):
+            if words[at] & 0xFFFFFFFF == RECORD_THREAD and words[at + 1] == 1:
+                write_words(path, offset + 8 * (at + FIELDS[field]), words[at + FIELDS[field]] + 1)
+                return
+            at += words[at] >> 32
+    raise AssertionError("no record of the thread")
+
+
+def go_round(recording):
+    """Thread 1 gets what it waits for, releases it, and waits for it again."""
+    from convert import CHUNK_EVENTS
+
+    ((path, _, offset, words),) = [chunk for chunk in chunks_of(recording, CHUNK_EVENTS) if chunk[1] == 1]
+    assert words[-1] & 31 == ACQUIRE, "it doesn't wait"
+    write_words(path, offset + 8 * len(words), words[-1] - ACQUIRE + RELEASE, words[-1])
+    write_words(path, offset + USED, len(words) + 2)
+
+
+def test_round_tells_how_far_its_threads_are():
+    """Whatever a thread does between two looks, also where it waits for the same lock at the same place afterwards."""
+    recording = left_hanging()
+    seen = [round_of(recording)]
+    assert [found[0] for found in seen[0]] == [0, 1] and round_of(recording) == seen[0], str(seen)
+    for field in FIELDS:
+        count_one(recording, field)
+        seen.append(round_of(recording))
+        assert seen[-1] not in seen[:-1], "%s doesn't tell: %s" % (field, seen)
+    go_round(recording)
+    seen.append(round_of(recording))
+    assert seen[-1] not in seen[:-1], "stored words don't tell: %s" % seen
+    assert len({tuple(found[:3] for found in rounds) for rounds in seen}) == 1, "the waits differ: %s" % seen
+
+
+def copied(rounds, began, took=0.0):
+    return SimpleNamespace(round=rounds, began=began, ended=began + took)
+
+
+@pytest.mark.parametrize(
+    "copies, hangs",
+    [
+        ([copied(CIRCLE, 1.0)], False),
+        ([copied(CIRCLE, 1.0), copied(CIRCLE, 1.1), copied(CIRCLE, 1.4)], False),
+        ([copied(CIRCLE, 1.0), copied(CIRCLE, 1.1), copied(CIRCLE, 1.5)], True),
+        ([copied(CIRCLE, 1.0, took=0.2), copied(CIRCLE, 1.5)], False),
+        ([copied(CIRCLE, 1.0, took=0.2), copied(CIRCLE, 1.75)], True),
+        ([copied(CIRCLE, 1.0), copied([], 1.2), copied(CIRCLE, 1.6)], False),
+        ([copied(CIRCLE, 1.0), copied([CIRCLE[0], (1, 2, 0, 9, 8)], 1.6)], False),
+        ([copied([], 1.0), copied([], 2.0)], False),
+    ],
+)
+def test_hang_lasts_half_a_second(copies, hangs):
+    """However many looks there are: from the end of the one that saw the circle first to the beginning of the present one."""
+    from live import Followed
+
+    followed = Followed()
+    answers = [followed.hangs_at(copy) for copy in copies]
+    assert answers == [False] * (len(copies) - 1) + [hangs], str(answers)
+
+
+@pytest.mark.parametrize(
+    "later, running, hangs",
+    [(CIRCLE, [7], True), ([CIRCLE[0], (1, 2, 0, 9, 8)], [7], False), ([], [7], False), (None, [], True)],
+)
+def test_program_that_still_runs_is_looked_at_twice(monkeypatch, later, running, hangs):
+    """At the end: of one that has ended a single look is enough."""
+    import live
+
+    copies = [SimpleNamespace(round=CIRCLE), SimpleNamespace(round=later)]
+    monkeypatch.setattr(live, "copy_events", lambda recording: {(7, 0): copies.pop(0)})
+    start = time.monotonic()
+    found = live.last_copy(None, running)
+    assert bool(found[7, 0].round) == hangs, str(found)
+    assert (time.monotonic() - start >= 0.5) == bool(running), "the time between the looks"
+
+
+def test_hang_is_told_once_though_others_come_to_wait():
+    """The circle begins with the same thread, however many wait for those in it."""
+    live = Live("./live", "hangs").is_ready()
+    live.wait_for_words(" hangs: ")
+    assert " hangs: main.1:holds waits for a at live.c:" in live.says(), live.says()
+    live.process.stdin.write(b"\n")
+    live.process.stdin.flush()
+    wait_until_all_wait(live.program)
+    time.sleep(2)
+    assert live.says().count(" hangs: ") == 1, live.says()
+    os.kill(live.program, 9)
+    live.end()
+    assert " hung: main.1:holds waits for a at live.c:" in live.said, live.said
