@@ -38,12 +38,13 @@ _goodlock_recorder() {
         --convert) _goodlock_files -d && return ;;
         --frames) _goodlock_words "1 2 4 8 16" && return ;;
         --python) _goodlock_files -c -A file && return ;;
-        --every) return ;;
+        --mode) _goodlock_words "basic guarded full" && return ;;
+        --every | --len | --max) return ;;
     esac
     for ((at = 1; at < COMP_CWORD; at++)); do
         word=${COMP_WORDS[at]}
         case $word in
-            -o | --convert | --frames | --every | --python) at=$((at + 1)) ;;
+            -o | --convert | --frames | --every | --mode | --len | --max | --python) at=$((at + 1)) ;;
             --) at=$((at + 1)) && break ;;
             -*) ;;
             *) break ;;
@@ -59,7 +60,7 @@ _goodlock_recorder() {
 }
 
 _goodlock_record() {
-    _goodlock_recorder "--functions --live --every"
+    _goodlock_recorder "--functions --live --every --mode --len --max"
 }
 
 _goodlock_python() {

@@ -1,8 +1,8 @@
 """Records the lock events of a program, unchanged, as a trace that goodlock reads.
 
     goodlock-record [-o TRACE] [--frames N] [--functions] [--all] [--] PROGRAM [ARGUMENT..]
-    goodlock-record --live [--every S] [-o REPORT] [--frames N] [--functions] [--all] [--] PROGRAM [ARGUMENT..]
-    goodlock-record [--live] [-o FILE] [--functions] --convert DIRECTORY
+    goodlock-record --live [--every S] [--mode M] [--len N] [--max N] [-o REPORT] [OPTION..] [--] PROGRAM [ARGUMENT..]
+    goodlock-record [--live [--mode M] [--len N] [--max N]] [-o FILE] [--functions] --convert DIRECTORY
 
 -o TRACE, -o REPORT  the file, else goodlock.std, or goodlock.report with --live
 --frames N           show N callers in a location (1 to 16)
@@ -12,6 +12,9 @@
                      REPORT ends in .json. SIGUSR1 to goodlock-record adds a report so far to REPORT.lines, and so does a
                      cycle that is new, and a hang
 --every S            with --live, add a report so far to REPORT.lines every S seconds
+--mode M             with --live, which cycles count, as in goodlock predict: basic, guarded, or full (full)
+--len N              with --live, the most edges that a cycle may have, 2 to 16 (4)
+--max N              with --live, the most cycles that are listed, 1 to 100000 (1000)
 --convert DIRECTORY  no run: write the trace, or with --live the report, of what a recording left behind
 --help, --version    print this, print the version
 
@@ -34,12 +37,18 @@ STATUS_NOT_EXECUTABLE = 126
 STATUS_NOT_FOUND = 127
 FRAMES_LIMIT = 16
 SECONDS_LEAST, SECONDS_MOST = 0.1, 1000000
+# What `goodlock predict` takes, and what it takes where nothing is said.
+MODES = ("basic", "guarded", "full")
+LENGTHS, COUNTS = (2, 16), (1, 100000)
+MODE, LENGTH, COUNT = "full", 4, 1000
+LIVE_VALUES = ("every", "mode", "len", "max")  # options that take a value with --live alone
 # The loader takes these in the path of a preload library as separators and variables.
 PRELOAD_SEPARATORS = " :$\t\n"
 LINK_DIRECTORIES = ("/tmp", "/var/tmp", "/dev/shm")
 
 USAGE = (
-    "usage: goodlock-record [--live [--every S]] [-o FILE] [--frames N] [--functions] [--all] [--] PROGRAM [ARGUMENT..]"
+    "usage: goodlock-record [--live [--every S] [--mode M] [--len N] [--max N]] [-o FILE] [--frames N] [--functions] [--all] "
+    "[--] PROGRAM [ARGUMENT..]"
 )
 
 
@@ -113,15 +122,25 @@ class Settings:
         self.all = False
         self.functions = False
         self.live = False
-        self.every = None
+        self.every = self.mode = self.len = self.max = None
         self.convert = None
         self.command = []
 
 
-def read_frames(text):
-    if not text.isdigit() or not 1 <= int(text) <= FRAMES_LIMIT:
-        raise Failed("--frames takes a number from 1 to %d" % FRAMES_LIMIT)
-    return int(text)
+def read_number(word, text, least, most):
+    try:
+        number = int(text) if text.isdigit() else -1
+    except ValueError:  # of digits that aren't those of a number, or of very many
+        number = -1
+    if not least <= number <= most:
+        raise Failed("%s takes a number from %d to %d" % (word, least, most))
+    return number
+
+
+def read_mode(text):
+    if text not in MODES:
+        raise Failed("--mode takes %s or %s" % (", ".join(MODES[:-1]), MODES[-1]))
+    return text
 
 
 def read_seconds(text):
@@ -139,9 +158,15 @@ def read_value(settings, word, value):
     if word == "-o":
         settings.trace = value
     elif word == "--frames":
-        settings.frames = read_frames(value)
+        settings.frames = read_number(word, value, 1, FRAMES_LIMIT)
     elif word == "--every":
         settings.every = read_seconds(value)
+    elif word == "--mode":
+        settings.mode = read_mode(value)
+    elif word == "--len":
+        settings.len = read_number(word, value, *LENGTHS)
+    elif word == "--max":
+        settings.max = read_number(word, value, *COUNTS)
     else:
         settings.convert = value
 
@@ -178,11 +203,11 @@ def read_arguments(
 
 def read_own_arguments(arguments):
     """Those of goodlock-record: it can follow a program, too."""
-    settings = read_arguments(
-        arguments, flags=("--all", "--live", "--functions"), values=("-o", "--frames", "--convert", "--every")
-    )
-    if settings.every and not settings.live:
-        raise Failed("--every is for --live\n" + USAGE)
+    values = ("-o", "--frames", "--convert", *("--" + name for name in LIVE_VALUES))
+    settings = read_arguments(arguments, flags=("--all", "--live", "--functions"), values=values)
+    for name in LIVE_VALUES:
+        if getattr(settings, name) is not None and not settings.live:
+            raise Failed("--%s is for --live\n%s" % (name, USAGE))
     return settings
 
 
@@ -296,12 +321,20 @@ def follow(settings, recording, process, family):
     """Starts what looks at the recording while the program runs."""
     from live import Companion, Follower
 
+    question = question_of(settings)
     try:
         family.accompany(
-            Companion(Follower(recording, settings.trace, process, settings.every, settings.functions, say))
+            Companion(Follower(recording, settings.trace, process, settings.every, question, settings.functions, say))
         )
     except OSError as error:
         say("no reports so far: %s" % error)
+
+
+def question_of(settings):
+    """What the reports are to list."""
+    from live import Question
+
+    return Question(settings.mode or MODE, settings.len or LENGTH, settings.max or COUNT)
 
 
 def exit_status(status):
@@ -339,7 +372,7 @@ def convert_all(recording, settings, first, running, ended_by):
             from live import report_recording
 
             summaries, faults = report_recording(
-                recording, settings.trace, first, running, ended_by, settings.functions
+                recording, settings.trace, first, running, ended_by, question_of(settings), settings.functions
             )
         else:
             summaries, faults = convert_recording(recording, settings.trace, first, settings.functions)

@@ -9,6 +9,7 @@ import signal
 import struct
 import time
 from array import array
+from collections import namedtuple
 
 from build import BuildError
 from convert import (
@@ -37,7 +38,7 @@ from family import FORWARDED, adopt_orphans
 from recording import maps_file
 
 WAY_JSON, WAY_SETTLED, WAY_SHORT = 1, 2, 4
-CYCLES = 1000
+MODES = {"basic": 0, "guarded": 1, "full": 2}  # as goodlock.h has them
 BATCH = 16  # windows that are reported at once
 # What the library answers, and what goodlock_live adds.
 OK, INCONSISTENT, WITHOUT_EVENTS = 0, 10, 1000
@@ -145,6 +146,10 @@ def named_processes(recording, copied, modules, with_functions):
 # --- Reports ---------------------------------------------------------------------------------------------
 
 
+# Which cycles count, how many edges they may have, and how many are listed.
+Question = namedtuple("Question", ("mode", "length", "most"))
+
+
 class Report:
     """What goodlock_live answered for one report, and what it wrote."""
 
@@ -161,12 +166,12 @@ class Report:
         return CODES.get(self.code, "goodlock answers %d" % self.code)
 
 
-def answered_reports(process, sets, ways, path):
+def answered_reports(process, sets, question, ways, path):
     """A report for each of these sets of threads; None stands for all. Of several, each is a line of JSON."""
     names = process.names
     files, packed = packed_files(names.order)
     parts = [packed, packed_numbers(process.no_locks), packed_texts(names.locks), packed_texts(names.places.all())]
-    parts.append(array("Q", [len(sets)]).tobytes())
+    parts.append(array("Q", [MODES[question.mode], question.length, question.most, len(sets)]).tobytes())
     for members in sets:
         order = [thread for thread in names.order if members is None or thread.number in members]
         parts += [packed_text(path), array("Q", [ways]).tobytes()]
@@ -182,22 +187,24 @@ def answered_reports(process, sets, ways, path):
             yield Report(code, cycles, more, written)
 
 
-def report_of(recording, process, is_settled, is_json, is_short):
+def report_of(recording, process, question, is_settled, is_json, is_short):
     """The report of a process: of all its threads, or, where goodlock doesn't read so many, of all windows together."""
     aside = recording.work_file("report")
     ways = WAY_SETTLED * is_settled + WAY_JSON * is_json + WAY_SHORT * is_short
     sets = windows(process)
     if not sets:
-        return next(answered_reports(process, [None], ways, aside))
+        return next(answered_reports(process, [None], question, ways, aside))
     ways = WAY_SETTLED * is_settled + WAY_JSON + WAY_SHORT
     parts = [sets[at : at + BATCH] for at in range(0, len(sets), BATCH)]
-    return merged((report for part in parts for report in answered_reports(process, part, ways, aside)), is_json)
+    reports = (report for part in parts for report in answered_reports(process, part, question, ways, aside))
+    return merged(reports, question, is_json)
 
 
-def merged(reports, is_json):
+def merged(reports, question, is_json):
     """The cycles of all these reports, each once, as one report."""
     edges, cycles, more = {}, {}, False
-    whole = {"cycles": [], "edges": [], "format": 2, "len": 4, "max": CYCLES, "mode": "full", "more": False, "trim": []}
+    whole = {"cycles": [], "edges": [], "format": 2, "more": False, "trim": []}
+    whole.update(len=question.length, max=question.most, mode=question.mode)
     for report in reports:
         if report.code not in (OK, WITHOUT_EVENTS):
             return report
@@ -212,12 +219,12 @@ def merged(reports, is_json):
                 edges.setdefault(identity(part["edges"][at]), (len(edges), part["edges"][at]))[0] for at in cycle
             )
             cycles.setdefault(places)
-    listed = list(cycles)[:CYCLES]
+    listed = list(cycles)[: question.most]
     kept = sorted({at for cycle in listed for at in cycle})
     numbers = {at: number for number, at in enumerate(kept)}
     whole["edges"] = [edge for at, edge in edges.values() if at in numbers]
     whole["cycles"] = [[numbers[at] for at in cycle] for cycle in listed]
-    whole["more"] = more or len(cycles) > CYCLES
+    whole["more"] = more or len(cycles) > question.most
     text = json.dumps(whole, sort_keys=True, separators=(",", ":")) + "\n" if is_json else text_of(whole)
     return Report(OK, len(listed), whole["more"], text.encode("utf-8", "surrogateescape"))
 
@@ -283,8 +290,9 @@ class Followed:
 class Follower:
     """Looks at the files of a recording again and again, and writes lines of reports so far."""
 
-    def __init__(self, recording, path, first, every, with_functions, say):
+    def __init__(self, recording, path, first, every, question, with_functions, say):
         self.recording = recording
+        self.question = question
         self.with_functions = with_functions
         self.path = path
         self.first = first
@@ -355,7 +363,7 @@ class Follower:
     def report(self, process, copy, path, why):
         """Makes a report so far: it is written if somebody asked, and if it has more cycles than those before."""
         followed = self.followed[process.key]
-        report = report_of(self.recording, process, False, True, True)
+        report = report_of(self.recording, process, self.question, False, True, True)
         followed.reported = copy.hash
         if report.code == WITHOUT_EVENTS:
             return
@@ -495,7 +503,7 @@ class LiveSummary(Summary):
         )
 
 
-def report_recording(recording, path, first, running, ended_by, with_functions):
+def report_recording(recording, path, first, running, ended_by, question, with_functions):
     """Writes the report of each process; what is said of each, the first process's first, and what was damaged."""
     copied = last_copy(recording, running)
     processes, faults = named_processes(recording, copied, {}, with_functions)
@@ -511,7 +519,8 @@ def report_recording(recording, path, first, running, ended_by, with_functions):
     for summary in summaries:
         summary.settle(running, ended_by if summary.process.key == last_image else 0)
         if summary.events:
-            summary.report = report_of(recording, summary.process, not summary.open, path.endswith(".json"), False)
+            is_json = path.endswith(".json")
+            summary.report = report_of(recording, summary.process, question, not summary.open, is_json, False)
     recording.remove_work()
     write_reports(summaries)
     return summaries, faults

@@ -16,6 +16,7 @@
  *     number of files;   a text each: the path
  *     number of locks that turned out to be none;   each: its number
  *     for locks and places: number of texts;   each: its number, a text
+ *     mode, most edges of a cycle, and most cycles, as goodlock.h has them
  *     number of reports;   each: a text, the path of its file, the sum of the ways below, and as follows
  *     for threads: number of texts;   each: its number, a text
  *     number of chunks;  each: file, thread, offset of its words in the file, how many
@@ -36,8 +37,6 @@
 #define WITHOUT_EVENTS 1000u
 
 #define RING 256u
-#define LENGTH 4u
-#define CYCLES 1000u
 #define TRIES 1000
 
 /* --- What a thread holds ---------------------------------------------------------------------------------- */
@@ -521,7 +520,13 @@ static uint32_t number_of(const struct numbers *numbers, uint64_t number)
     return number < numbers->count ? numbers->of[number] : NO_NUMBER;
 }
 
+/* What the reports are to list. */
+struct question {
+    uint32_t mode, length, most;
+};
+
 struct report {
+    struct question question;
     struct texts locks, places, threads;
     struct numbers lock_numbers, place_numbers, lanes_of;
     uint64_t *thread_of; /* of each lane */
@@ -837,7 +842,8 @@ static void report_session(struct request *request, struct report *report, const
     uint32_t (*make)(goodlock_session *, uint32_t, uint32_t, uint32_t, goodlock_report *) =
         ways & WAY_SETTLED ? goodlock_settled_report : goodlock_report_so_far;
     if (report->code == GOODLOCK_OK)
-        report->code = make(&report->session, GOODLOCK_FULL_MODE, LENGTH, CYCLES, &made);
+        report->code =
+            make(&report->session, report->question.mode, report->question.length, report->question.most, &made);
     if (report->code == GOODLOCK_OK)
         report->code = goodlock_cycles(&made, &cycles, &more);
     if (report->code == GOODLOCK_OK)
@@ -872,9 +878,14 @@ static void report_all(struct request *request)
     int *files = files_open(request);
     no_locks_read(request);
     struct texts locks = next_texts(request), places = next_texts(request);
+    struct question question;
+    question.mode = (uint32_t)next_word(request);
+    question.length = (uint32_t)next_word(request);
+    question.most = (uint32_t)next_word(request);
     for (uint64_t left = next_word(request); left > 0; left--) {
         struct report *report = memory(NULL, sizeof *report);
         memset(report, 0, sizeof *report);
+        report->question = question;
         report->locks = locks;
         report->places = places;
         report_make(request, report, files);

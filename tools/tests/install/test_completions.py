@@ -46,10 +46,12 @@ def test_bash_offers_commands_values_and_files(path, tmp_path):
     assert offered_by_bash(["goodlock", ""]) == {*listed, "--help", "--version"}
     assert set(listed) == set(SUBCOMMANDS)
     assert offered_by_bash(["goodlock", "predict", "--mode", ""]) == {"basic", "guarded", "full"}
+    assert offered_by_bash(["goodlock-record", "--live", "--mode", ""]) == {"basic", "guarded", "full"}
     assert offered_by_bash(["goodlock-view", "re"]) == {"report.json"}
     assert offered_by_bash(["goodlock-view", "--source", ""]) == {"folder"}
     assert offered_by_bash(["goodlock-record", "-o", "t.std", "ls", "re"]) == {"report.json"}
     assert "ls" in offered_by_bash(["goodlock-record", "-o", "t.std", "l"])
+    assert "ls" in offered_by_bash(["goodlock-record", "--live", "--len", "5", "--max", "9", "--mode", "full", "l"])
 
 
 @pytest.mark.skipif(not has("fish"), reason="fish isn't installed")

@@ -43,9 +43,9 @@ def recorded(*command, options=()):
     return Run(list(command), options)
 
 
-def report_later(directory, path="r.json"):
+def report_later(directory, path="r.json", options=()):
     """Makes the report of what a recording left behind; what it said."""
-    command = [RECORD, "--live", "-o", path, "--convert", directory]
+    command = [RECORD, "--live", *options, "-o", path, "--convert", directory]
     done = subprocess.run(command, stderr=subprocess.PIPE, timeout=LIMIT)
     assert done.returncode == 0, done.stderr.decode()
     return done.stderr.decode()
@@ -101,9 +101,9 @@ class Live:
         return self
 
 
-def predicted(trace="t.std"):
+def predicted(trace="t.std", options=()):
     with open(trace, "rb") as file:
-        done = subprocess.run([GOODLOCK, "predict", "--json"], stdin=file, stdout=subprocess.PIPE)
+        done = subprocess.run([GOODLOCK, "predict", "--json", *options], stdin=file, stdout=subprocess.PIPE)
     assert done.returncode in (0, 1), "predict has status %d" % done.returncode
     return done.stdout
 

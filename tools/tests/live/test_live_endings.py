@@ -91,6 +91,32 @@ def test_wrong_arguments(words):
     assert done.returncode == REFUSED and b"Traceback" not in done.stderr, done.stderr.decode()
 
 
+@pytest.mark.parametrize(
+    "words, said",
+    [
+        ("--len 5", "--len is for --live"),
+        ("--mode full", "--mode is for --live"),
+        ("--max 1000", "--max is for --live"),
+        ("--live --len 1", "--len takes a number from 2 to 16"),
+        ("--live --len 17", "--len takes a number from 2 to 16"),
+        ("--live --len \u00b2", "--len takes a number from 2 to 16"),
+        ("--live --max 0", "--max takes a number from 1 to 100000"),
+        ("--live --max 100001", "--max takes a number from 1 to 100000"),
+        ("--live --max -1", "--max takes a number from 1 to 100000"),
+        ("--live --max " + "9" * 5000, "--max takes a number from 1 to 100000"),
+        ("--frames \u00b2", "--frames takes a number from 1 to 16"),
+        ("--live --mode all", "--mode takes basic, guarded or full"),
+    ],
+    ids=lambda text: text[:20],
+)
+def test_wrong_questions(words, said):
+    """Nothing is run, and standard error says what is taken."""
+    command = [RECORD, "-o", "r.json", *words.split(), "sh", "-c", "echo ran"]
+    done = subprocess.run(command, stdout=subprocess.PIPE, stderr=subprocess.PIPE)
+    assert done.returncode == REFUSED and done.stdout == b"", done.stdout.decode()
+    assert done.stderr.decode().splitlines()[0] == "goodlock-record: " + said, done.stderr.decode()
+
+
 @pytest.mark.parametrize("other", ["goodlock-python", "goodlock-java"])
 def test_other_recorders_have_no_reports_so_far(other):
     done = subprocess.run([os.path.join(TOOLS, other), "--live", "true"], stderr=subprocess.PIPE)

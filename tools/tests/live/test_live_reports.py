@@ -6,7 +6,7 @@ import subprocess
 
 import pytest
 from c_programs import MARKS, end, raw_directory
-from following import Live, compare_bytes, cycles_in, predicted, read_report, recorded, report_later, reported
+from following import Live, compare_bytes, cycles_in, lines_of, predicted, read_report, recorded, report_later, reported
 from known_traces import NO_EVENTS, RECORD, compare
 
 
@@ -100,6 +100,59 @@ def test_threads_that_come_and_go(path):
             [line.split(" since")[0] for line in done.lines()],
             ["cycle 1: 2 edges", "  main.1501:one_way holds a", "  main.1502:other_way holds b", "cycles: 1"],
         )
+
+
+@pytest.mark.parametrize(
+    "program, options, cycles, more",
+    [
+        ("ring 5", "", 0, False),
+        ("ring 5", "--len 5", 1, False),
+        ("ring 16", "--len 15", 0, False),
+        ("ring 16", "--len 16", 1, False),
+        ("gates 1", "", 0, False),
+        ("gates 1", "--mode guarded", 0, False),
+        ("gates 1", "--mode basic", 190, False),
+        ("gates 1", "--mode basic --max 189", 189, True),
+        ("gates 1", "--mode basic --max 190", 190, False),
+    ],
+)
+def test_what_is_asked_for(program, options, cycles, more):
+    """A ring has one cycle, of as many edges as it has threads; of 20 locks in opposite orders below a gate any two make one, which
+    counts where gates don't."""
+    command = ["./live", *program.split()]
+    done = reported(*command, options=options.split())
+    report = read_report()
+    assert (len(report["cycles"]), report["more"]) == (cycles, more), done.said
+    assert "r.json: %d cycle%s%s; settled" % (cycles, "s" * (cycles != 1), " (more)" * more) in done.said, done.said
+    assert recorded(*command).status == 0
+    compare_bytes("r.json", predicted(options=options.split()))
+
+
+ASKED = ["--mode", "basic", "--len", "3", "--max", "7"]
+
+
+def told(report):
+    return report["mode"], report["len"], report["max"]
+
+
+def test_lines_and_later_reports_are_what_is_asked_for():
+    """Reports so far, and what is made of a recording that was left behind."""
+    live = Live("./live", "waits", options=["--every", "0.1", *ASKED]).is_ready()
+    live.wait_for_words("1 cycle so far")
+    live.process.kill()
+    live.end()
+    assert [told(line) for line in lines_of()] == [("basic", 3, 7)] * len(lines_of()), str(lines_of())
+    end(live.program)
+    report_later(raw_directory("r.json"), "later.json", ASKED)
+    assert told(read_report("later.json")) == ("basic", 3, 7), str(read_report("later.json"))
+
+
+@pytest.mark.parametrize("most", [5, 190])
+def test_windows_are_asked_for_the_same(most):
+    done = reported("./live", "churn_and_gates", "1500", options=["--mode", "basic", "--len", "2", "--max", str(most)])
+    report = read_report()
+    assert "in one of 2 windows" in done.said and told(report) == ("basic", 2, most), done.said
+    assert len(report["cycles"]) == most and report["more"] == (most < 190), done.said
 
 
 def test_nothing_to_report():

@@ -101,6 +101,27 @@ static void hangs(void)
     pause();
 }
 
+/* So many threads one after the other, each with its own lock and the next one's. */
+static pthread_mutex_t forks_of[16];
+
+static void *dines(void *place)
+{
+    long own = (long)place;
+    both(&forks_of[own], &forks_of[(own + 1) % number]);
+    return NULL;
+}
+
+static void ring(void)
+{
+    pthread_t threads[16];
+    for (long i = 0; i < number; i++) {
+        pthread_create(&threads[i], NULL, dines, (void *)i);
+        wait_for_others();
+    }
+    for (int i = 0; i < number; i++)
+        pthread_join(threads[i], NULL);
+}
+
 /* Opposite orders below a gate, of some locks and of others in turn. The locks aren't released in the order in which they were
  * taken: so what is left out is a whole round at once. */
 enum { MANY = 20 };
@@ -136,15 +157,28 @@ static void *short_lived(void *unused)
     return unused;
 }
 
-/* So many threads come and go, and then two with opposite orders. */
-static void churn(void)
+static void come_and_go(void)
 {
     for (int i = 0; i < number; i++) {
         pthread_t thread;
         pthread_create(&thread, NULL, short_lived, NULL);
         pthread_join(thread, NULL);
     }
+}
+
+/* So many threads come and go, and then two with opposite orders. */
+static void churn(void)
+{
+    come_and_go();
     in_turn(one_way, other_way);
+}
+
+/* The same with many locks below a gate. */
+static void churn_and_gates(void)
+{
+    come_and_go();
+    number = 1;
+    gates();
 }
 
 static volatile sig_atomic_t taken;
@@ -256,7 +290,7 @@ int main(int count, char **arguments)
     } programs[] = {
         {"waits", waits}, {"goes_on", goes_on}, {"comes_later", comes_later}, {"gates", gates}, {"churn", churn},
         {"own_signal", own_signal}, {"forks", forks}, {"repeats", repeats}, {"killed", killed}, {"races", races},
-        {"hangs", hangs},
+        {"hangs", hangs}, {"ring", ring}, {"churn_and_gates", churn_and_gates},
     };
     number = count > 2 ? atoi(arguments[2]) : 0;
     for (size_t i = 0; count > 1 && i < sizeof programs / sizeof programs[0]; i++)
