@@ -41,6 +41,7 @@ SECONDS_LEAST, SECONDS_MOST = 0.1, 1000000
 MODES = ("basic", "guarded", "full")
 LENGTHS, COUNTS = (2, 16), (1, 100000)
 MODE, LENGTH, COUNT = "full", 4, 1000
+USR1_WAS_DEFAULT = "GOODLOCK_RECORD_USR1"  # the script ignores that signal up to here
 LIVE_VALUES = ("every", "mode", "len", "max")  # options that take a value with --live alone
 # The loader takes these in the path of a preload library as separators and variables.
 PRELOAD_SEPARATORS = " :$\t\n"
@@ -291,6 +292,8 @@ def record(settings):
     for name in ("goodlock_lines",) + ("goodlock_live",) * settings.live:
         built_before(name)
     mask = signal.pthread_sigmask(signal.SIG_BLOCK, WAITED)  # none ends this half way
+    if os.environ.pop(USR1_WAS_DEFAULT, None):
+        signal.signal(signal.SIGUSR1, signal.SIG_DFL)
     try:
         recording = new_recording(settings.trace)
     except OSError as error:

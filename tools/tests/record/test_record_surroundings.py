@@ -3,6 +3,7 @@
 import glob
 import os
 import shutil
+import signal
 import subprocess
 
 import pytest
@@ -68,6 +69,36 @@ def test_program_with_address_sanitizer():
     run = record("./locks-asan", "mutexes")
     assert run.status == 0 and "ERROR" not in run.said, run.said
     assert len(run.lines()) == 8, str(run.lines())
+
+
+def become_ignorant():
+    signal.signal(signal.SIGUSR1, signal.SIG_IGN)
+
+
+@pytest.mark.parametrize("before", [None, become_ignorant], ids=["default", "ignored"])
+@pytest.mark.parametrize("options", [[], ["--live"]], ids=["trace", "live"])
+def test_program_has_the_signals_of_who_asked(options, before):
+    """What is blocked and ignored is as without the recorder, and so are the variables that aren't told in its name."""
+    command = ["sh", "-c", "grep -E 'SigIgn|SigBlk' /proc/self/status; env | grep -c USR1"]
+    plain = subprocess.run(command, stdout=subprocess.PIPE, preexec_fn=before)
+    done = subprocess.run([RECORD, *options, *command], stdout=subprocess.PIPE, preexec_fn=before)
+    assert done.stdout == plain.stdout and done.stdout.count(b"\n") == 3, done.stdout.decode()
+
+
+def test_signal_before_the_program_is_there():
+    """With --live it would ask for a report: there is none yet, and the recorder doesn't end by it."""
+    running = subprocess.Popen([RECORD, "--live", "./locks", "mutexes"], stderr=subprocess.PIPE)
+
+    def is_python():
+        with open("/proc/%d/cmdline" % running.pid, "rb") as file:
+            return b"launch.py" in file.read()
+
+    while not is_python():
+        assert running.poll() is None, "it ended"
+    running.send_signal(signal.SIGUSR1)
+    _, said = running.communicate(timeout=LIMIT)
+    assert running.returncode == 0, "status %d: %s" % (running.returncode, said.decode())
+    assert os.path.exists("goodlock.report"), said.decode()
 
 
 def test_closed_standard_files():
