@@ -486,7 +486,9 @@ class LiveSummary(Summary):
         if self.report.code != OK:
             yield "%s: no report: %s" % (self.path, self.report.fault())
             return
-        state = "so far, as %s" % self.open if self.open else "settled"
+        sets = windows(self.process)
+        scope = ", of %d windows" % len(sets) if sets else ""
+        state = "so far%s, as %s" % (scope, self.open) if self.open else "settled" + scope
         yield "%s: %s; %s" % (self.path, self.report.count(), state)
         if self.copy.round:
             yield "%s hung: %s" % (self.name(), round_text(self.process, self.copy.round))

@@ -92,7 +92,8 @@ def test_report_and_trace_of_one_recording(seed):
 def test_threads_that_come_and_go(path):
     """The cycle is that of the last two of 1,502 threads, more than goodlock reads at once."""
     done = reported("./live", "churn", "1500", path=path)
-    assert done.status == 0 and "1 cycle; settled" in done.said and "in one of 2 windows" in done.said, done.said
+    assert done.status == 0 and "in one of 2 windows" in done.said, done.said
+    assert done.said.endswith(": 1 cycle; settled, of 2 windows\n"), done.said
     if path == "r.json":
         assert cycles_in(read_report()) == [[("main.1501:one_way", "a", "b"), ("main.1502:other_way", "b", "a")]]
     else:
@@ -145,6 +146,14 @@ def test_lines_and_later_reports_are_what_is_asked_for():
     end(live.program)
     report_later(raw_directory("r.json"), "later.json", ASKED)
     assert told(read_report("later.json")) == ("basic", 3, 7), str(read_report("later.json"))
+
+
+def test_window_of_a_program_that_was_killed():
+    """Of 1,025 threads, main among them."""
+    done = reported("./live", "killed", "1022")
+    assert ": 1 cycle; so far, of 2 windows, as signal 9 ended the process\n" in done.said, done.said
+    done = reported("./live", "killed", "1021")
+    assert ": 1 cycle; so far, as signal 9 ended the process\n" in done.said, done.said
 
 
 @pytest.mark.parametrize("most", [5, 190])

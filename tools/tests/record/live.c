@@ -234,6 +234,7 @@ static void repeats(void)
 /* Ends itself by a signal that can't be caught. */
 static void killed(void)
 {
+    come_and_go();
     in_turn(one_way, other_way);
     raise(SIGKILL);
 }
