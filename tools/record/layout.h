@@ -68,6 +68,10 @@ enum record_kind {
     RECORD_START = 6,
     RECORD_UNLOADED = 7,
     RECORD_LOSSES = 8,
+    /* For who asks which threads wait for ever (convert/live.c). */
+    RECORD_ENDED = 9, /* the thread of this number ended, and held locks */
+    RECORD_OWNER_DIED =
+        10, /* the lock of this number was taken though a thread had ended that held it: robust mutexes */
     /* Of recorders that know names and no addresses, as those of Java and Python. */
     RECORD_PLACE = 16,     /* a site's text: lines `path:line` or without a colon, the innermost first */
     RECORD_LOCK_KIND = 17, /* what stands for a lock's class in its name */
@@ -142,6 +146,12 @@ struct lock_record {
     uint64_t address;
     uint64_t site;             /* of the call that made it */
     uint64_t thread_and_order; /* who made it in bits 0-31; how many locks that thread had made before */
+};
+
+/* Of a thread that ended, of a lock whose owner died. */
+struct number_record {
+    uint64_t head;
+    uint64_t number;
 };
 
 struct text_record {

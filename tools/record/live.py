@@ -62,8 +62,9 @@ END_LIMIT = 5
 
 # --- The copy of the events ------------------------------------------------------------------------------
 
-# Of each thread that waits: its number, the word of its acquire, who has the lock, and two numbers that tell how far it is.
-WAIT_WORDS = 5
+# Of each thread that waits: its number, the word of its acquire, who has the lock, whether that one has ended, and two numbers that
+# tell how far it is.
+WAIT_WORDS = 6
 
 
 class Copied:
@@ -255,11 +256,12 @@ def plain(name):
 def round_text(process, found):
     """Who waits for whom."""
     parts = []
-    for thread, word, holder, *_ in found:
+    for thread, word, holder, has_ended, *_ in found:
         lock = process.names.locks.get(word >> OBJECT_SHIFT, "?")
         place = process.names.places.text(word >> SITE_SHIFT & SITE_MASK)
         who = "itself" if thread == holder else process.names.thread_name(holder)
-        parts.append("%s waits for %s at %s, which %s holds" % (process.names.thread_name(thread), lock, place, who))
+        text = "%s waits for %s at %s, which %s holds" % (process.names.thread_name(thread), lock, place, who)
+        parts.append(text + (", though it has ended" if has_ended else ""))
     return "; ".join(parts)
 
 
@@ -476,6 +478,8 @@ class LiveSummary(Summary):
             self.open = "signal %d ended the process" % ended_by
         elif self.lost["events"]:
             self.open = "events were lost"
+        elif any(has_ended for _, _, _, has_ended, *_ in self.copy.round):
+            self.open = "it ended while a thread waited for one that had ended before"
         elif self.copy.round:
             self.open = "it ended while threads waited for each other"
 

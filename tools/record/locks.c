@@ -101,6 +101,16 @@ uint64_t call_word_slow(struct thread *thread, const void *address, enum lock_cl
     return word;
 }
 
+void lock_owner_died(const void *address)
+{
+    struct slow_state state;
+    slow_enter(&state);
+    struct slot *slot = table_find(&process.locks, (uint64_t)(uintptr_t)address);
+    if (slot && slot->value)
+        number_note(RECORD_OWNER_DIED, slot->value);
+    slow_leave(&state);
+}
+
 /* --- Held locks ----------------------------------------------------------------------------------------- */
 
 /* This lock has an event: what lies in the levels above isn't left out by itself. */

@@ -230,6 +230,15 @@ void record_done(void *record)
     __atomic_store_n(&chunk->used, chunk->used + words, __ATOMIC_RELEASE);
 }
 
+void number_note(enum record_kind kind, uint64_t number)
+{
+    struct number_record *record = record_new(kind, sizeof *record);
+    if (!record)
+        return;
+    record->number = number;
+    record_done(record);
+}
+
 /* --- Tables --------------------------------------------------------------------------------------------- */
 
 struct slot *table_find_further(struct address_table *table, uint64_t key)

@@ -22,6 +22,9 @@ int slow_inside(void);
 /* A new file with room for so many bytes, mapped; NULL if there is none. */
 void *file_map(const char *path, uint64_t bytes);
 
+/* A record of a thread or lock that has nothing but its number. Called between slow_enter and slow_leave. */
+void number_note(enum record_kind kind, uint64_t number);
+
 /* Pages that are zero in a forked child. */
 void *pages_new_wiped(size_t bytes);
 

@@ -351,6 +351,9 @@ static inline uint32_t lock_number(struct thread *thread, const void *address, e
 void memory_note(struct thread *thread, uintptr_t address);
 void memory_forget(uintptr_t address);
 
+/* Slow inside: the lock was taken though a thread had ended that held it. */
+void lock_owner_died(const void *address);
+
 static inline void lock_forget(const void *address)
 {
     memory_forget((uintptr_t)address);

@@ -147,12 +147,13 @@ void thread_forget(void)
     own_record = NULL;
 }
 
-/* Runs when the thread ends, with the destructors of other keys, which may still take locks: so it asks to
- * be called again as often as the system allows, and gives the state back in the last round. */
+/* Runs when the thread ends, with the destructors of other keys, which may still take locks and release them: so it
+ * asks to be called again as often as the system allows, and gives the state back in the last round. A thread that
+ * holds locks even then keeps it, and its end is told, as nobody else releases them. */
 static void thread_exit(void *value)
 {
     struct thread *thread = value;
-    if (thread != current_thread || thread->held_count > 0)
+    if (thread != current_thread)
         return;
     if (++thread->exit_rounds < PTHREAD_DESTRUCTOR_ITERATIONS) {
         pthread_setspecific(exit_key, thread);
@@ -160,6 +161,11 @@ static void thread_exit(void *value)
     }
     struct slow_state state;
     slow_enter(&state);
+    if (thread->held_count > 0) {
+        number_note(RECORD_ENDED, thread->number);
+        slow_leave(&state);
+        return;
+    }
     if (thread->stack_low)
         memory_end_inside(thread->stack_low, thread->stack_top);
     if (thread->keys != thread->first_keys)
@@ -173,6 +179,8 @@ static void thread_exit(void *value)
 __attribute__((constructor(102))) static void exit_key_start(void)
 {
     exit_key_made = pthread_key_create(&exit_key, thread_exit) == 0;
+    if (exit_key_made && current_thread != &thread_none) /* the first thread was there before the key */
+        pthread_setspecific(exit_key, current_thread);
 }
 
 /* --- Words where the chunk is full ------------------------------------------------------------------------ */

@@ -5,9 +5,11 @@
 #include "confirm.h"
 #include "real.h"
 
-/* Also where the lock's owner died: the lock is held. */
-static inline int took(int result)
+/* Also where the lock's owner died: the lock is held, and no longer by that thread. */
+static inline int took(const pthread_mutex_t *lock, int result)
 {
+    if (unlikely(result == EOWNERDEAD))
+        lock_owner_died(lock);
     return result == 0 || result == EOWNERDEAD;
 }
 
@@ -97,22 +99,23 @@ EXPORTED int pthread_mutex_destroy(pthread_mutex_t *lock)
 
 EXPORTED int pthread_mutex_lock(pthread_mutex_t *lock)
 {
-    ACQUIRE(lock, LOCK_MUTEX, EVENT_ACQUIRE, is_plain(lock), took(result), real.pthread_mutex_lock(lock));
+    ACQUIRE(lock, LOCK_MUTEX, EVENT_ACQUIRE, is_plain(lock), took(lock, result), real.pthread_mutex_lock(lock));
 }
 
 EXPORTED int pthread_mutex_trylock(pthread_mutex_t *lock)
 {
-    TRY_ACQUIRE(lock, LOCK_MUTEX, EVENT_TRY_ACQUIRE, took(result), real.pthread_mutex_trylock(lock));
+    TRY_ACQUIRE(lock, LOCK_MUTEX, EVENT_TRY_ACQUIRE, took(lock, result), real.pthread_mutex_trylock(lock));
 }
 
 EXPORTED int pthread_mutex_timedlock(pthread_mutex_t *lock, deadline_t deadline)
 {
-    TRY_ACQUIRE(lock, LOCK_MUTEX, EVENT_TRY_ACQUIRE, took(result), real.pthread_mutex_timedlock(lock, deadline));
+    TRY_ACQUIRE(lock, LOCK_MUTEX, EVENT_TRY_ACQUIRE, took(lock, result), real.pthread_mutex_timedlock(lock, deadline));
 }
 
 EXPORTED int pthread_mutex_clocklock(pthread_mutex_t *lock, clockid_t clock, deadline_t deadline)
 {
-    TRY_ACQUIRE(lock, LOCK_MUTEX, EVENT_TRY_ACQUIRE, took(result), real.pthread_mutex_clocklock(lock, clock, deadline));
+    TRY_ACQUIRE(lock, LOCK_MUTEX, EVENT_TRY_ACQUIRE, took(lock, result),
+                real.pthread_mutex_clocklock(lock, clock, deadline));
 }
 
 EXPORTED int pthread_mutex_unlock(pthread_mutex_t *lock)
@@ -241,6 +244,7 @@ static inline void wait_write(struct thread *thread, uint64_t word, int good)
         confirm_before(thread, word | EVENT_ACQUIRE, lock, (uintptr_t)__builtin_return_address(0), 1); \
     wait_write(thread, word, good); \
     int result = call; \
+    took((const pthread_mutex_t *)lock, result); \
     if (unlikely(confirming)) \
         confirm_after(thread); \
     return result

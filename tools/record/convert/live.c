@@ -11,7 +11,8 @@
  * It answers, for each process: the number of chunks of tables, each: order, extent, offset of the chunk; the number of
  * chunks of events, each: thread, offset in the copy, number of words; a hash of the events that stay, which changes
  * with each that is news; the number of threads that wait for each other, each: thread, the word of the acquire that
- * waits, the thread that has the lock, and two numbers that tell how far the thread is. That of `report`:
+ * waits, the thread that has the lock, whether that one has ended, and two numbers that tell how far the thread is.
+ * That of `report`:
  *
  *     number of files;   a text each: the path
  *     number of locks that turned out to be none;   each: its number
@@ -133,6 +134,7 @@ struct recorded {
     struct row events, tables;
     const struct thread_record **threads;
     uint64_t thread_count;
+    struct locks ended, owner_died; /* threads that ended and held locks; locks that were taken from such */
 };
 
 static void row_add(struct row *row, struct place place)
@@ -195,6 +197,19 @@ static void thread_note(struct recorded *recorded, const struct thread_record *r
     recorded->threads[number] = record;
 }
 
+static void record_note(struct recorded *recorded, const uint64_t *record, uint64_t size)
+{
+    uint32_t kind = (uint32_t)*record;
+    if (size < 2 || record[1] > UINT32_MAX)
+        return;
+    if (kind == RECORD_THREAD && size * 8 >= sizeof(struct thread_record))
+        thread_note(recorded, (const struct thread_record *)record);
+    else if (kind == RECORD_ENDED)
+        locks_add(&recorded->ended, record[1]);
+    else if (kind == RECORD_OWNER_DIED)
+        locks_add(&recorded->owner_died, record[1]);
+}
+
 /* The threads' records. Each was in its table before its thread had a chunk. */
 static void tables_read(struct recorded *recorded)
 {
@@ -207,9 +222,7 @@ static void tables_read(struct recorded *recorded)
             uint64_t size = *record >> 32;
             if (size == 0 || size > end - at)
                 break;
-            if ((uint32_t)*record == RECORD_THREAD && size * 8 >= sizeof(struct thread_record) &&
-                record[1] <= UINT32_MAX)
-                thread_note(recorded, (const struct thread_record *)record);
+            record_note(recorded, record, size);
             at += size;
         }
     }
@@ -293,16 +306,19 @@ struct waits {
     struct hold *holds;
     struct wait *waits;
     size_t hold_count, hold_room, wait_count, wait_room;
-    struct locks strays; /* that some thread released which didn't hold it: so nobody knows who has it */
+    struct locks strays;     /* that some thread released which didn't hold it: so nobody knows who has it */
+    struct locks ended;      /* threads that never release what they hold, and don't wait */
+    struct locks owner_died; /* locks that are taken though a thread has ended that held them */
 };
 
 static void waits_add(struct waits *waits, const struct holding *holding, uint32_t thread,
                       const struct progress *progress)
 {
-    uint32_t wanted = (uint32_t)(holding->last >> OBJECT_SHIFT);
-    unsigned kind = holding->last % KINDS;
+    uint64_t last = locks_have(&waits->ended, thread) ? 0 : holding->last;
+    uint32_t wanted = (uint32_t)(last >> OBJECT_SHIFT);
+    unsigned kind = last % KINDS;
     for (unsigned i = 0; i < holding->count; i++) {
-        if (holding->last && (kind == EVENT_ACQUIRE || kind == EVENT_SHARED_ACQUIRE) && holding->held[i].lock == wanted)
+        if (last && (kind == EVENT_ACQUIRE || kind == EVENT_SHARED_ACQUIRE) && holding->held[i].lock == wanted)
             continue;
         if (waits->hold_count == waits->hold_room) {
             waits->hold_room = 2 * waits->hold_room + 64;
@@ -310,13 +326,13 @@ static void waits_add(struct waits *waits, const struct holding *holding, uint32
         }
         waits->holds[waits->hold_count++] = (struct hold){holding->held[i].lock, thread, holding->held[i].shared};
     }
-    if (!holding->last)
+    if (!last)
         return;
     if (waits->wait_count == waits->wait_room) {
         waits->wait_room = 2 * waits->wait_room + 64;
         waits->waits = memory(waits->waits, waits->wait_room * sizeof *waits->waits);
     }
-    waits->waits[waits->wait_count++] = (struct wait){holding->last, thread, 0, 1, *progress};
+    waits->waits[waits->wait_count++] = (struct wait){last, thread, 0, 1, *progress};
 }
 
 static struct wait *wait_of(struct waits *waits, uint32_t thread)
@@ -327,7 +343,7 @@ static struct wait *wait_of(struct waits *waits, uint32_t thread)
     return NULL;
 }
 
-/* A thread that waits itself and has what this one waits for; whether there is one. */
+/* A thread that has what this one waits for, and waits itself or has ended; whether there is one. */
 static int wait_is_kept_up(struct waits *waits, struct wait *wait)
 {
     unsigned kind = wait->word % KINDS;
@@ -336,10 +352,13 @@ static int wait_is_kept_up(struct waits *waits, struct wait *wait)
         const struct hold *hold = &waits->holds[i];
         if (hold->lock != (uint32_t)(wait->word >> OBJECT_SHIFT) || (hold->thread == wait->thread) != itself)
             continue;
-        if (locks_have(&waits->strays, hold->lock))
+        int has_ended = locks_have(&waits->ended, hold->thread);
+        if (locks_have(&waits->strays, hold->lock) || (has_ended && locks_have(&waits->owner_died, hold->lock)))
             continue;
-        struct wait *other = kind == EVENT_SHARED_ACQUIRE && hold->shared ? NULL : wait_of(waits, hold->thread);
-        if (other && other->stays) {
+        if (kind == EVENT_SHARED_ACQUIRE && hold->shared)
+            continue;
+        struct wait *other = wait_of(waits, hold->thread);
+        if ((other && other->stays) || has_ended) {
             wait->on = hold->thread;
             return 1;
         }
@@ -347,7 +366,8 @@ static int wait_is_kept_up(struct waits *waits, struct wait *wait)
     return 0;
 }
 
-/* Leaves out those that wait for somebody who doesn't, until all that are left wait for each other. */
+/* Leaves out those that wait for somebody who doesn't, until all that are left wait for each other or for a thread that
+ * has ended. */
 static void waits_settle(struct waits *waits)
 {
     for (int changed = 1; changed;) {
@@ -360,25 +380,44 @@ static void waits_settle(struct waits *waits)
     }
 }
 
-/* The first thread, by birth, of a round that wait for each other; NULL if there is none. However many others wait for
- * these, the round begins with the same thread. */
-static struct wait *round_start(struct waits *waits)
+/* Where the waits lead to from this one: to one of a round, or to one for a thread that has ended. */
+static struct wait *wait_end(struct waits *waits, struct wait *wait)
 {
-    struct wait *found = NULL;
-    for (size_t i = 0; i < waits->wait_count && !found; i++)
-        if (waits->waits[i].stays)
-            found = &waits->waits[i];
-    for (size_t i = 0; found && i < waits->wait_count; i++)
-        found = wait_of(waits, found->on); /* after so many steps it is one of the round */
-    struct wait *first = found;
-    for (size_t i = 0; found && i < waits->wait_count; i++) {
-        found = wait_of(waits, found->on);
-        if (found->thread < first->thread)
-            first = found;
+    for (size_t i = 0; i < waits->wait_count && !locks_have(&waits->ended, wait->on); i++)
+        wait = wait_of(waits, wait->on);
+    return wait;
+}
+
+/* The first thread, by birth, of a round. */
+static struct wait *round_first(struct waits *waits, struct wait *wait)
+{
+    struct wait *first = wait;
+    for (size_t i = 0; i < waits->wait_count; i++) {
+        wait = wait_of(waits, wait->on);
+        if (wait->thread < first->thread)
+            first = wait;
     }
     return first;
 }
 
+/* The first thread of a round that wait for each other; else the first one that waits for a thread that has ended; NULL
+ * if there is none. However many others wait for these, it is the same. */
+static struct wait *round_start(struct waits *waits)
+{
+    struct wait *first = NULL;
+    for (size_t i = 0; i < waits->wait_count; i++) {
+        if (!waits->waits[i].stays)
+            continue;
+        struct wait *end = wait_end(waits, &waits->waits[i]);
+        if (!locks_have(&waits->ended, end->on))
+            return round_first(waits, end);
+        if (!first || end->thread < first->thread)
+            first = end;
+    }
+    return first;
+}
+
+/* Writes one round. One that waits for a thread that has ended is a round of itself. */
 static void waits_put(struct waits *waits)
 {
     waits_settle(waits);
@@ -388,7 +427,8 @@ static void waits_put(struct waits *waits)
         count++;
     output_put((const char *)&count, sizeof count);
     for (struct wait *wait = first; count > 0; count--, wait = wait_of(waits, wait->on)) {
-        uint64_t answer[] = {wait->thread, wait->word, wait->on, wait->progress.stored, wait->progress.gone};
+        uint64_t has_ended = (uint64_t)locks_have(&waits->ended, wait->on);
+        uint64_t answer[] = {wait->thread, wait->word, wait->on, has_ended, wait->progress.stored, wait->progress.gone};
         output_put((const char *)answer, sizeof answer);
     }
 }
@@ -466,6 +506,8 @@ static void process_copy(struct request *request)
         extent_map(&recorded, extent, next_text(request));
     tables_read(&recorded);
     tables_put(&recorded);
+    copied.waits.ended = recorded.ended;
+    copied.waits.owner_died = recorded.owner_died;
     if (recorded.events.count > 0)
         qsort(recorded.events.places, recorded.events.count, sizeof *recorded.events.places, by_thread);
     uint64_t count = recorded.events.count;
@@ -481,6 +523,8 @@ static void process_copy(struct request *request)
     free(copied.waits.holds);
     free(copied.waits.waits);
     free(copied.waits.strays.bits);
+    free(copied.waits.ended.bits);
+    free(copied.waits.owner_died.bits);
 }
 
 static void copy_all(struct request *request, const char *path)

@@ -1,14 +1,15 @@
 """What counts as a hang: a circle of threads none of which did anything for half a second."""
 
 import os
+import signal
 import struct
 import sys
 import time
 from types import SimpleNamespace
 
 import pytest
-from c_programs import end, raw_directory
-from following import Live
+from c_programs import MARKS, end, raw_directory
+from following import Live, reported
 from known_traces import TOOLS, wait_until_all_wait
 
 sys.path.insert(0, os.path.join(TOOLS, "record"))
@@ -18,7 +19,8 @@ RECORD_THREAD = 5
 FIELDS = {"left_out": 9, "lost": 10, "others": 11}
 USED = -16
 ACQUIRE, RELEASE = 1, 2
-CIRCLE = [(0, 1, 1, 7, 8), (1, 2, 0, 7, 8)]
+CIRCLE = [(0, 1, 1, 0, 7, 8), (1, 2, 0, 0, 7, 8)]
+LATER = [CIRCLE[0], (1, 2, 0, 0, 9, 8)]  # the same waits, after an event
 
 
 def left_hanging():
@@ -92,7 +94,7 @@ def test_round_tells_how_far_its_threads_are():
     go_round(recording)
     seen.append(round_of(recording))
     assert seen[-1] not in seen[:-1], "stored words don't tell: %s" % seen
-    assert len({tuple(found[:3] for found in rounds) for rounds in seen}) == 1, "the waits differ: %s" % seen
+    assert len({tuple(found[:4] for found in rounds) for rounds in seen}) == 1, "the waits differ: %s" % seen
 
 
 def copied(rounds, began, took=0.0):
@@ -108,7 +110,7 @@ def copied(rounds, began, took=0.0):
         ([copied(CIRCLE, 1.0, took=0.2), copied(CIRCLE, 1.5)], False),
         ([copied(CIRCLE, 1.0, took=0.2), copied(CIRCLE, 1.75)], True),
         ([copied(CIRCLE, 1.0), copied([], 1.2), copied(CIRCLE, 1.6)], False),
-        ([copied(CIRCLE, 1.0), copied([CIRCLE[0], (1, 2, 0, 9, 8)], 1.6)], False),
+        ([copied(CIRCLE, 1.0), copied(LATER, 1.6)], False),
         ([copied([], 1.0), copied([], 2.0)], False),
     ],
 )
@@ -123,7 +125,7 @@ def test_hang_lasts_half_a_second(copies, hangs):
 
 @pytest.mark.parametrize(
     "later, running, hangs",
-    [(CIRCLE, [7], True), ([CIRCLE[0], (1, 2, 0, 9, 8)], [7], False), ([], [7], False), (None, [], True)],
+    [(CIRCLE, [7], True), (LATER, [7], False), ([], [7], False), (None, [], True)],
 )
 def test_program_that_still_runs_is_looked_at_twice(monkeypatch, later, running, hangs):
     """At the end: of one that has ended a single look is enough."""
@@ -137,16 +139,50 @@ def test_program_that_still_runs_is_looked_at_twice(monkeypatch, later, running,
     assert (time.monotonic() - start >= 0.5) == bool(running), "the time between the looks"
 
 
-def test_hang_is_told_once_though_others_come_to_wait():
-    """The circle begins with the same thread, however many wait for those in it."""
-    live = Live("./live", "hangs").is_ready()
+ENDED = "%s waits for a at live.c:%d, which %s holds, though it has ended"
+FIRST = int(MARKS["live.c", "first"].split(":")[1])
+HANGING = {
+    "hangs": "main.1:holds waits for a at live.c:",
+    "hangs 1": "main.3:holds waits for a at live.c:",
+    "holder_ended 0": ENDED % ("main.2:one_way", FIRST, "main.1:keeps"),
+    "holder_ended 1": ENDED % ("main.2:one_way", FIRST, "main.1:keeps"),
+}
+
+
+@pytest.mark.parametrize("command", HANGING)
+def test_hang_is_told_once_though_others_come_to_wait(command):
+    """A circle, which counts more than a wait for a thread that has ended, begins with the same thread, however many wait for those in
+    it. Of those that wait for one that has ended the first one is told."""
+    live = Live("./live", *command.split()).is_ready()
     live.wait_for_words(" hangs: ")
-    assert " hangs: main.1:holds waits for a at live.c:" in live.says(), live.says()
+    assert " hangs: " + HANGING[command] in live.says(), live.says()
     live.process.stdin.write(b"\n")
     live.process.stdin.flush()
     wait_until_all_wait(live.program)
     time.sleep(2)
     assert live.says().count(" hangs: ") == 1, live.says()
-    os.kill(live.program, 9)
+    os.kill(live.program, signal.SIGKILL)
     live.end()
-    assert " hung: main.1:holds waits for a at live.c:" in live.said, live.said
+    assert " hung: " + HANGING[command] in live.said, live.said
+
+
+def test_first_thread_that_ended():
+    live = Live("./live", "holder_ended", "2").is_ready()
+    live.wait_for_words(" hangs: " + ENDED % ("main.1:one_way", FIRST, "main"))
+    live.end(signal.SIGTERM)
+
+
+def test_end_while_a_thread_waits_for_one_that_has_ended():
+    done = reported("./live", "holder_ended", "3")
+    assert (
+        done.status == 0 and "so far, as it ended while a thread waited for one that had ended before" in done.said
+    ), done.said
+    assert " hung: " + ENDED % ("main.2:one_way", FIRST, "main.1:keeps") in done.said, done.said
+
+
+@pytest.mark.parametrize("how", ["0", "1"], ids=["lock", "condition"])
+def test_lock_whose_owner_died(how):
+    """A robust mutex is taken then: who has it, and who waits for that one, doesn't hang."""
+    done = reported("./live", "owner_died", how)
+    assert done.status == 0 and "; settled" in done.said, done.said
+    assert " hangs: " not in done.said and " hung: " not in done.said, done.said

@@ -77,6 +77,13 @@ static void comes_later(void)
     pause();
 }
 
+static void *short_lived(void *unused)
+{
+    pthread_mutex_lock(&gate);
+    pthread_mutex_unlock(&gate);
+    return unused;
+}
+
 static pthread_barrier_t each_holds_one;
 
 static void *holds(void *order)
@@ -87,11 +94,94 @@ static void *holds(void *order)
     return NULL;
 }
 
-/* Two threads wait for each other, and when a line is read a third one waits for the first one's lock. */
+static void *keeps(void *lock)
+{
+    pthread_mutex_lock(lock);
+    return NULL;
+}
+
+/* A thread waits for a lock of one that has ended: it was joined, detached, or the first one, and in the last case the program ends.
+ * When a line is read another one waits for it too. */
+enum { JOINED, DETACHED, MAIN, ENDS };
+
+static void holder_ended(void)
+{
+    char line[16];
+    pthread_t threads[3];
+    if (number == MAIN)
+        keeps(&a);
+    else
+        pthread_create(&threads[0], NULL, keeps, &a);
+    if (number == DETACHED)
+        pthread_detach(threads[0]);
+    else if (number != MAIN)
+        pthread_join(threads[0], NULL);
+    wait_for_others();
+    pthread_create(&threads[1], NULL, one_way, NULL);
+    wait_for_others();
+    if (number == ENDS)
+        return;
+    say_ready();
+    if (number == MAIN)
+        pthread_exit(NULL);
+    if (fgets(line, sizeof line, stdin))
+        pthread_create(&threads[2], NULL, one_way, NULL);
+    pause();
+}
+
+static pthread_mutex_t robust;
+static pthread_cond_t changed = PTHREAD_COND_INITIALIZER;
+
+static void *dies(void *unused)
+{
+    pthread_mutex_lock(&robust);
+    pthread_cond_signal(&changed);
+    return unused;
+}
+
+/* Gets the lock of a thread that ended, and has no event for a while. */
+static void *takes_over(void *waits)
+{
+    pthread_mutex_lock(&robust);
+    if (waits)
+        pthread_cond_wait(&changed, &robust);
+    pthread_mutex_consistent(&robust);
+    sleep(2);
+    pthread_mutex_unlock(&robust);
+    return NULL;
+}
+
+/* Nobody hangs: the first argument tells whether the lock is got by a wait for a condition. */
+static void owner_died(void)
+{
+    pthread_mutexattr_t attributes;
+    pthread_t threads[2];
+    pthread_mutexattr_init(&attributes);
+    pthread_mutexattr_setrobust(&attributes, PTHREAD_MUTEX_ROBUST);
+    pthread_mutex_init(&robust, &attributes);
+    void *(*const runs[])(void *) = {number ? takes_over : dies, number ? dies : takes_over};
+    for (int i = 0; i < 2; i++) {
+        pthread_create(&threads[i], NULL, runs[i], number ? &robust : NULL);
+        wait_for_others();
+    }
+    pthread_mutex_lock(&robust);
+    pthread_mutex_unlock(&robust);
+    for (int i = 0; i < 2; i++)
+        pthread_join(threads[i], NULL);
+}
+
+/* Two threads wait for each other, and when a line is read a third one waits for the first one's lock. With an argument another one waits
+ * for a thread that has ended before. */
 static void hangs(void)
 {
     char line[16];
     pthread_t threads[3];
+    if (number) {
+        pthread_create(&threads[0], NULL, keeps, &gate);
+        pthread_join(threads[0], NULL);
+        pthread_create(&threads[0], NULL, short_lived, NULL);
+        wait_for_others();
+    }
     pthread_barrier_init(&each_holds_one, NULL, 2);
     for (long i = 0; i < 2; i++)
         pthread_create(&threads[i], NULL, holds, (void *)i);
@@ -148,13 +238,6 @@ static void gates(void)
         pthread_create(&threads[i], NULL, gated, (void *)i);
     for (int i = 0; i < 2; i++)
         pthread_join(threads[i], NULL);
-}
-
-static void *short_lived(void *unused)
-{
-    pthread_mutex_lock(&gate);
-    pthread_mutex_unlock(&gate);
-    return unused;
 }
 
 static void come_and_go(void)
@@ -291,7 +374,7 @@ int main(int count, char **arguments)
     } programs[] = {
         {"waits", waits}, {"goes_on", goes_on}, {"comes_later", comes_later}, {"gates", gates}, {"churn", churn},
         {"own_signal", own_signal}, {"forks", forks}, {"repeats", repeats}, {"killed", killed}, {"races", races},
-        {"hangs", hangs}, {"ring", ring}, {"churn_and_gates", churn_and_gates},
+        {"hangs", hangs}, {"holder_ended", holder_ended}, {"owner_died", owner_died}, {"ring", ring}, {"churn_and_gates", churn_and_gates},
     };
     number = count > 2 ? atoi(arguments[2]) : 0;
     for (size_t i = 0; count > 1 && i < sizeof programs / sizeof programs[0]; i++)
