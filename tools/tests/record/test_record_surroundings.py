@@ -85,6 +85,17 @@ def test_program_has_the_signals_of_who_asked(options, before):
     assert done.stdout == plain.stdout and done.stdout.count(b"\n") == 3, done.stdout.decode()
 
 
+@pytest.mark.parametrize("options", [[], ["--live"]], ids=["trace", "live"])
+def test_program_has_the_variables_of_who_asked(options):
+    """Also those whose names a script may use for itself."""
+    names = "here python name mask line status directory".split()
+    command = ["sh", "-c", "echo " + " ".join("$" + name for name in names)]
+    told = subprocess.run(
+        [RECORD, *options, *command], stdout=subprocess.PIPE, env={**os.environ, **dict(zip(names, names))}
+    )
+    assert told.stdout.decode().split() == names, told.stdout.decode()
+
+
 def test_signal_before_the_program_is_there():
     """With --live it would ask for a report: there is none yet, and the recorder doesn't end by it."""
     running = subprocess.Popen([RECORD, "--live", "./locks", "mutexes"], stderr=subprocess.PIPE)
