@@ -1,9 +1,10 @@
 """What it writes for tools, what it refuses, and that it leaves nothing."""
 
 import json
+import os
 import subprocess
 
-from confirming import DEADLOCKED, ERROR, VIEW, check_that_nothing_is_left, deadlocks, false_alarm, run
+from confirming import CONFIRM, DEADLOCKED, ERROR, VIEW, check_that_nothing_is_left, deadlocks, false_alarm, run
 
 
 def test_output_for_tools(predict):
@@ -32,6 +33,16 @@ def test_a_report_of_findings(predict):
     status, out, said = run(["findings.json", "--", "./cycles", "opposite"])
     assert status == DEADLOCKED and out.startswith("deadlocked in try "), out + said
     assert "main.1:one_way holds a since " in out and "main.2:other_way holds b since " in out, out
+
+
+def test_program_has_the_variables_of_who_asked(predict):
+    """Also those whose names a script may use for itself."""
+    words = [CONFIRM, "--tries", "1", predict("opposite"), "--", "sh", "-c", "echo $here $python >> variables.txt"]
+    asked = {**os.environ, "here": "one", "python": "two"}
+    said = subprocess.run(words, stdout=subprocess.PIPE, stderr=subprocess.STDOUT, env=asked, timeout=100).stdout
+    with open("variables.txt") as file:
+        told = set(file)
+    assert told == {"one two\n"}, (told, said)
 
 
 def test_errors(predict):

@@ -1,6 +1,7 @@
 """Statuses, and what the recorder of the C library says of Java."""
 
 import os
+import subprocess
 
 import pytest
 from java_traces import JAVA_RECORD, MARKS, PAIR, program, record
@@ -14,6 +15,14 @@ def test_no_events_is_an_error():
     assert run.status == NO_EVENTS and run.files() == [], "%d %s" % (run.status, run.files())
     run = record(None, command=["true"])
     assert run.status == NO_EVENTS and "no JVM was recorded" in run.said, run.said
+
+
+def test_program_has_the_variables_of_who_asked():
+    """Also those whose names a script may use for itself."""
+    words = [JAVA_RECORD, "-o", "variables.std", "--", "sh", "-c", "echo $here $python"]
+    asked = {**os.environ, "here": "one", "python": "two"}
+    told = subprocess.run(words, stdout=subprocess.PIPE, stderr=subprocess.PIPE, env=asked)
+    assert told.stdout == b"one two\n", told.stdout + told.stderr
 
 
 def test_missing_program():

@@ -36,6 +36,16 @@ def test_forked_process():
     )
 
 
+def test_program_has_the_variables_of_who_asked():
+    """Also those whose names a script may use for itself."""
+    with open("variables.py", "w") as file:
+        file.write("import os\nprint(os.environ['here'], os.environ['python'])\n")
+    words = [PYTHON_RECORD, "--python", INTERPRETER, "-o", "variables.std", "variables.py"]
+    asked = {**os.environ, "here": "one", "python": "two"}
+    told = subprocess.run(words, stdout=subprocess.PIPE, stderr=subprocess.PIPE, env=asked)
+    assert told.stdout == b"one two\n", told.stdout + told.stderr
+
+
 def test_child_process():
     run = record("children")
     assert run.status == 0, run.said
