@@ -59,16 +59,27 @@ AreOthersSame thread old new =
 -- how pulls off the thread's lane end: all is well, memory was refused, or the lane is broken. Where none was asked for, its lane isn't looked at
 pub record IsLaneEnd (thread most : ℕ) (now : Collecting) (answer : ℕ) : Type 0 where
   pub answers : IsOneOf answer (OK ∷ MEMORY ∷ BROKEN ∷ [])
+  pub none_asked : most ≡ 0 → answer ≡ OK
   pub broken : answer ≡ BROKEN → IsSome (broken_at now thread)
   pub whole : (answer ≡ BROKEN → ⊥) → 0 < most → broken_at now thread ≡ None
 
--- how pulls off all lanes end: no lane is broken, or as many notes were pulled as were asked for; memory was refused; or a lane is broken
-pub record IsEndOfAll (most : ℕ) (now : Collecting) (count : PulledCount)
+-- pulls off all lanes stopped at this thread's: memory was refused there, or its lane is broken. No lane before it is; nothing was
+-- pulled off those behind it, and they weren't looked at
+pub record IsStopAt (thread : ℕ) (old now : Collecting) (count : PulledCount)
+    (answer : ℕ) : Type 0 where
+  pub known : thread < old.limits.threads
+  pub ends : IsLaneEnd thread 1 now answer
+  pub ahead : (other : ℕ) → other < thread → broken_at now other ≡ None
+  pub pulled : ArePulled (All (λ note. note.thread ≤ thread)) old now count
+  pub behind : (other : ℕ) → thread < other → broken_at now other ≡ broken_at old other
+
+-- how pulls off all lanes end: no lane is broken, or as many notes were pulled as were asked for; or they stopped at a lane
+pub record IsEndOfAll (most : ℕ) (old now : Collecting) (count : PulledCount)
     (answer : ℕ) : Type 0 where
   pub answers : IsOneOf answer (OK ∷ MEMORY ∷ BROKEN ∷ [])
-  pub broken : answer ≡ BROKEN → (thread : ℕ) × IsSome (broken_at now thread)
   pub whole : answer ≡ OK → count.events + count.ended < most → (thread : ℕ)
       → broken_at now thread ≡ None
+  pub stopped : (answer ≡ OK → ⊥) → (thread : ℕ) × IsStopAt thread old now count answer
 
 -- one of the thread's notes was pulled
 pub record IsOnePull (thread : ℕ) (old : Collecting) (one : PulledCount)
@@ -112,7 +123,7 @@ pub record IsPullOff (thread most : ℕ) (old : Running) (count : PulledCount) (
 pub record IsPullAll (most : ℕ) (old : Running) (count : PulledCount) (answer : ℕ)
     (new : Running) : Type 0 where
   pub moved : ArePulls (AreInTurns old.limits.ring) most old count new
-  pub ends : IsEndOfAll most new.collector count answer
+  pub ends : IsEndOfAll most old.collector new.collector count answer
 
 -- at most so many of the thread's notes were pulled, if there is such a thread
 pub record IsPullOfLane (thread most : ℕ) (old : Running) (count : PulledCount) (answer : ℕ)

@@ -3,7 +3,7 @@ use Rattle.std.proofs.Common.{◌≡◌, ℕ, ap, refl, subst, ◌∙◌, arith}
 use Rattle.gl_event.specs.Bounds.{Bounds}
 use Rattle.gl_c.specs.Pulling.{both, ArePulled, AreInTurns, IsPullOff}
 use Rattle.gl_c.specs.declared.pulling.PulledCount.{PulledCount}
-use Rattle.gl_c.proofs.Turns.{next_pulls, turns_of, whole_all, whole_next}
+use Rattle.gl_c.proofs.Turns.{ends_as_one, next_pulls, none_behind, some_asked, turns_of, whole_all, whole_next}
 use Rattle.gl_c.proofs.pulling.pull_all.Goals as goal
 
 pub returns-then-answer-ne-OK : goal.returns-then-answer-ne-OK
@@ -24,8 +24,16 @@ returns-then-answer-ne-OK c =
       };
       ends = record {
         answers = off.ends.answers;
-        broken = λ answer. (c.loop-number.number, off.ends.broken answer);
         whole = λ answer. absurd (c.if-answer-ne-OK.true answer);
+        stopped = λ ill.
+            (let some = some_asked c.loop-number.number c.min.result c.pull_off-answer.new.running.collector c.pull_off-answer.result.1 off.ends ill in
+            (c.loop-number.number, record {
+              known = omega (arith, c.loop-number.invariant.threads, ap (λ (b : Bounds). b.threads) c.args.running.now.same);
+              ends = ends_as_one c.loop-number.number c.min.result c.pull_off-answer.new.running.collector c.pull_off-answer.result.1 off.ends some;
+              ahead = λ other before. off.others other (λ same. omega arith) ∙ c.loop-number.invariant.whole (omega arith) other before;
+              pulled = none_behind c.ring-ring.result c.loop-number.number c.args.running.now.collector c.pull_off-answer.new.running.collector c.both-pulled.result all;
+              behind = λ other past. off.others other (λ same. omega arith) ∙ c.loop-number.invariant.behind other (omega arith);
+            }));
       };
     }
 
@@ -48,6 +56,7 @@ loop-number-preserved c =
           (let some_ring = c.ring-ring.ensures.within.some_ring in
           whole_next c.loop-number.number c.loop-number.running.collector c.pull_off-answer.new.running.collector (c.loop-number.invariant.whole (omega (arith, events, ended))) off.others
           (off.ends.whole (λ broken. omega arith) (omega (arith, events, ended))));
+      behind = λ thread past. off.others thread (λ same. omega arith) ∙ c.loop-number.invariant.behind thread (omega arith);
     }
 
 pub returns : goal.returns
@@ -63,7 +72,7 @@ returns c =
       };
       ends = record {
         answers = refl;
-        broken = λ answer. absurd (omega arith);
         whole = λ _ few. whole_all c.loop-number.number now (omega (arith, threads, c.loop-number.running.inputs)) (c.loop-number.invariant.whole few);
+        stopped = λ ill. absurd (ill refl);
       };
     }

@@ -10,4 +10,5 @@ invariant-loop-number l = record {
   pulled : ArePulled (AreInTurnsBelow l.ring l.number) l.initial.running.collector l.running.collector l.pulled;
   most_are : l.pulled.events + l.pulled.ended ≤ l.most;
   whole : l.pulled.events + l.pulled.ended < l.most → (thread : ℕ) → thread < l.number → broken_at l.running.collector thread ≡ None;
+  behind : (thread : ℕ) → l.number ≤ thread → broken_at l.running.collector thread ≡ broken_at l.initial.running.collector thread;
 }
