@@ -26,14 +26,16 @@ returns-then-answer-ne-OK c =
         answers = off.ends.answers;
         whole = λ answer. absurd (c.if-answer-ne-OK.true answer);
         stopped = λ ill.
-            (let some = some_asked c.loop-number.number c.min.result c.pull_off-answer.new.running.collector c.pull_off-answer.result.1 off.ends ill in
-            (c.loop-number.number, record {
-              known = omega (arith, c.loop-number.invariant.threads, ap (λ (b : Bounds). b.threads) c.args.running.now.same);
-              ends = ends_as_one c.loop-number.number c.min.result c.pull_off-answer.new.running.collector c.pull_off-answer.result.1 off.ends some;
-              ahead = λ other before. off.others other (λ same. omega arith) ∙ c.loop-number.invariant.whole (omega arith) other before;
-              pulled = none_behind c.ring-ring.result c.loop-number.number c.args.running.now.collector c.pull_off-answer.new.running.collector c.both-pulled.result all;
-              behind = λ other past. off.others other (λ same. omega arith) ∙ c.loop-number.invariant.behind other (omega arith);
-            }));
+            (let some = some_asked c.loop-number.number c.min.result c.pull_off-answer.new.running.collector c.pull_off-answer.result.1 off.ends ill in (
+              c.loop-number.number,
+              record {
+                known = omega (arith, c.loop-number.invariant.threads, ap (λ (b : Bounds). b.threads) c.args.running.now.same);
+                ends = ends_as_one c.loop-number.number c.min.result c.pull_off-answer.new.running.collector c.pull_off-answer.result.1 off.ends some;
+                ahead = λ other before. off.others other (λ same. omega arith) ∙ c.loop-number.invariant.whole (omega arith) other before;
+                pulled = none_behind c.ring-ring.result c.loop-number.number c.args.running.now.collector c.pull_off-answer.new.running.collector c.both-pulled.result all;
+                behind = λ other past. off.others other (λ same. omega arith) ∙ c.loop-number.invariant.behind other (omega arith);
+              },
+            ));
       };
     }
 
