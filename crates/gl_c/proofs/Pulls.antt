@@ -92,7 +92,6 @@ module _ (thread : ℕ) (old new : Collecting) (still : IsStillThat old new) (in
     none = moved_none is.side is.moved (ap (λ (s : Side). s.stream) is.tells.1);
     ends = record {
       answers = refl;
-      none_asked = λ none. absurd (omega arith);
       broken = λ answer. (let clash : OK ≡ BROKEN = answer in cc);
       whole = λ _ _. broken_here is.side is.moved ∙ ap (λ (s : Side). s.input.broken) is.tells.1 ∙ is.tells.0;
     };
@@ -104,7 +103,6 @@ module _ (thread : ℕ) (old new : Collecting) (still : IsStillThat old new) (in
     none = moved_none is.side is.moved (ap (λ (s : Side). s.stream) is.tells.1);
     ends = record {
       answers = refl;
-      none_asked = λ none. absurd (omega arith);
       broken = λ answer. (let clash : MEMORY ≡ BROKEN = answer in cc);
       whole = λ _ _. broken_here is.side is.moved ∙ ap (λ (s : Side). s.input.broken) is.tells.1 ∙ is.tells.0;
     };
@@ -116,7 +114,6 @@ module _ (thread : ℕ) (old new : Collecting) (still : IsStillThat old new) (in
     none = moved_none side moved same;
     ends = record {
       answers = refl;
-      none_asked = λ none. absurd (omega arith);
       broken = λ _. subst IsSome (sym (broken_here side moved ∙ broken)) refl;
       whole = λ unless _. absurd (unless refl);
     };

@@ -9,7 +9,6 @@ use Rattle.gl_event.specs.declared.notes.Note.{Note}
 use Rattle.std.proofs.lemmas.Option.{slice_get_past}
 use Rattle.gl_engine.specs.Collecting.{Collecting, Pulling}
 use Rattle.gl_c.specs.Pulling.{both, ArePulled, AreInTurns, AreInTurnsBelow, AreOfThread, broken_at, AreOthersSame, IsLaneEnd}
-use Rattle.gl_c.specs.declared.codes.TheConstants.{OK}
 use Rattle.gl_c.specs.declared.pulling.PulledCount.{PulledCount}
 use Rattle.gl_c.proofs.Counts.{total_counted}
 use Rattle.gl_c.proofs.Pulls.{pulled_more}
@@ -121,19 +120,10 @@ none_behind ring number a b count pulled = record {
   count_is = pulled.count_is;
 }
 
--- where pulls off a lane didn't end well, some were asked for
-pub some_asked : (thread most : ℕ) (now : Collecting) (answer : ℕ) → IsLaneEnd thread most now answer → (answer ≡ OK → ⊥) → 0 < most
-some_asked thread most now answer ends ill =
-    elim (cases_lt 0 most) [
-      | inl some ↦ some
-      | inr none ↦ absurd (ill (ends.none_asked (omega arith)))
-    ]
-
--- so they end as one pull does
+-- pulls off a lane of which some were asked for end as one pull does
 pub ends_as_one : (thread most : ℕ) (now : Collecting) (answer : ℕ) → IsLaneEnd thread most now answer → 0 < most → IsLaneEnd thread 1 now answer
 ends_as_one thread most now answer ends some = record {
   answers = ends.answers;
-  none_asked = λ none. absurd (omega arith);
   broken = ends.broken;
   whole = λ unless _. ends.whole unless some;
 }

@@ -59,7 +59,6 @@ AreOthersSame thread old new =
 -- how pulls off the thread's lane end: all is well, memory was refused, or the lane is broken. Where none was asked for, its lane isn't looked at
 pub record IsLaneEnd (thread most : ℕ) (now : Collecting) (answer : ℕ) : Type 0 where
   pub answers : IsOneOf answer (OK ∷ MEMORY ∷ BROKEN ∷ [])
-  pub none_asked : most ≡ 0 → answer ≡ OK
   pub broken : answer ≡ BROKEN → IsSome (broken_at now thread)
   pub whole : (answer ≡ BROKEN → ⊥) → 0 < most → broken_at now thread ≡ None
 
@@ -112,17 +111,19 @@ pub record ArePulls (AreTheirs : List Note → Type 0) (most : ℕ) (old : Runni
   pub pulled : ArePulled AreTheirs old.collector new.collector count
   pub most_are : count.events + count.ended ≤ most
 
--- at most so many notes were pulled off the thread's lane
+-- at most so many notes were pulled off the thread's lane, and fewer where it doesn't end well
 pub record IsPullOff (thread most : ℕ) (old : Running) (count : PulledCount) (answer : ℕ)
     (new : Running) : Type 0 where
   pub moved : ArePulls (AreOfThread thread) most old count new
+  pub fewer : (answer ≡ OK → ⊥) → count.events + count.ended < most
   pub ends : IsLaneEnd thread most new.collector answer
   pub others : AreOthersSame thread old.collector new.collector
 
--- at most so many notes were pulled, off each lane in turn
+-- at most so many notes were pulled, off each lane in turn, and fewer where it doesn't end well
 pub record IsPullAll (most : ℕ) (old : Running) (count : PulledCount) (answer : ℕ)
     (new : Running) : Type 0 where
   pub moved : ArePulls (AreInTurns old.limits.ring) most old count new
+  pub fewer : (answer ≡ OK → ⊥) → count.events + count.ended < most
   pub ends : IsEndOfAll most old.collector new.collector count answer
 
 -- at most so many of the thread's notes were pulled, if there is such a thread

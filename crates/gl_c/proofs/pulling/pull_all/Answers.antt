@@ -3,7 +3,7 @@ use Rattle.std.proofs.Common.{◌≡◌, ℕ, ap, refl, subst, ◌∙◌, arith}
 use Rattle.gl_event.specs.Bounds.{Bounds}
 use Rattle.gl_c.specs.Pulling.{both, ArePulled, AreInTurns, IsPullOff}
 use Rattle.gl_c.specs.declared.pulling.PulledCount.{PulledCount}
-use Rattle.gl_c.proofs.Turns.{ends_as_one, next_pulls, none_behind, some_asked, turns_of, whole_all, whole_next}
+use Rattle.gl_c.proofs.Turns.{ends_as_one, next_pulls, none_behind, turns_of, whole_all, whole_next}
 use Rattle.gl_c.proofs.pulling.pull_all.Goals as goal
 
 pub returns-then-answer-ne-OK : goal.returns-then-answer-ne-OK
@@ -22,15 +22,16 @@ returns-then-answer-ne-OK c =
             (turns_of c.ring-ring.result _ c.args.running.now.collector c.pull_off-answer.new.running.collector c.both-pulled.result all);
         most_are = omega (arith, ap (λ (p : PulledCount). p.events) sums, ap (λ (p : PulledCount). p.ended) sums);
       };
+      fewer = λ ill. (let one_fewer = off.fewer ill in omega (arith, ap (λ (p : PulledCount). p.events) sums, ap (λ (p : PulledCount). p.ended) sums));
       ends = record {
         answers = off.ends.answers;
         whole = λ answer. absurd (c.if-answer-ne-OK.true answer);
         stopped = λ ill.
-            (let some = some_asked c.loop-number.number c.min.result c.pull_off-answer.new.running.collector c.pull_off-answer.result.1 off.ends ill in (
+            (let fewer = off.fewer ill in (
               c.loop-number.number,
               record {
                 known = omega (arith, c.loop-number.invariant.threads, ap (λ (b : Bounds). b.threads) c.args.running.now.same);
-                ends = ends_as_one c.loop-number.number c.min.result c.pull_off-answer.new.running.collector c.pull_off-answer.result.1 off.ends some;
+                ends = ends_as_one c.loop-number.number c.min.result c.pull_off-answer.new.running.collector c.pull_off-answer.result.1 off.ends (omega arith);
                 ahead = λ other before. off.others other (λ same. omega arith) ∙ c.loop-number.invariant.whole (omega arith) other before;
                 pulled = none_behind c.ring-ring.result c.loop-number.number c.args.running.now.collector c.pull_off-answer.new.running.collector c.both-pulled.result all;
                 behind = λ other past. off.others other (λ same. omega arith) ∙ c.loop-number.invariant.behind other (omega arith);
@@ -72,6 +73,7 @@ returns c =
             (turns_of c.ring-ring.result _ c.args.running.now.collector now c.loop-number.pulled c.loop-number.invariant.pulled);
         most_are = c.loop-number.invariant.most_are;
       };
+      fewer = λ ill. absurd (ill refl);
       ends = record {
         answers = refl;
         whole = λ _ few. whole_all c.loop-number.number now (omega (arith, threads, c.loop-number.running.inputs)) (c.loop-number.invariant.whole few);
