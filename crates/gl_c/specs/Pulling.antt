@@ -1,5 +1,5 @@
 -- What pulls change of a session.
-use Rattle.std.specs.Prelude.{◌≡◌, ℕ, ◌+◌, ◌<◌, ◌≤◌, ◌==◌, not, List, [], ◌∷◌, ◌++◌, Option, None, count_by, option_and_then, slice_get, All, AllPairs, IsSome}
+use Rattle.std.specs.Prelude.{◌≡◌, ℕ, ◌+◌, ◌<◌, ◌≤◌, ◌==◌, not, List, [], ◌∷◌, ◌++◌, Option, Some, None, count_by, option_and_then, slice_get, All, AllPairs, IsSome}
 use Rattle.gl_event.specs.declared.notes.Note.{Note}
 use Rattle.gl_intake.specs.Stream.{is_end}
 use Rattle.gl_intake.specs.declared.notes.Refused.{Refused}
@@ -51,6 +51,11 @@ AreOfThread thread notes = All (λ note. note.thread ≡ thread) notes
 abbrev pub broken_at : Collecting → ℕ → Option Refused
 broken_at c thread = option_and_then (λ input. input.broken) (slice_get c.inputs thread)
 
+-- a lane that was broken stays so
+abbrev pub StayBroken : Collecting → Collecting → Type 0
+StayBroken old new =
+    (thread : ℕ) (why : Refused) → broken_at old thread ≡ Some why → broken_at new thread ≡ Some why
+
 -- no other thread's lane breaks
 abbrev pub AreOthersSame : ℕ → Collecting → Collecting → Type 0
 AreOthersSame thread old new =
@@ -87,12 +92,14 @@ pub record IsOnePull (thread : ℕ) (old : Collecting) (one : PulledCount)
   pub is_one : one.events + one.ended ≡ 1
   pub whole : broken_at new thread ≡ None
   pub others : AreOthersSame thread old new
+  pub stay : StayBroken old new
 
 -- none of them was, for this reason
 pub record IsNoPull (thread : ℕ) (old : Collecting) (answer : ℕ) (new : Collecting) : Type 0 where
   pub none : ArePulled (AreOfThread thread) old new none_pulled
   pub ends : IsLaneEnd thread 1 new answer
   pub others : AreOthersSame thread old new
+  pub stay : StayBroken old new
 
 -- notes of each thread in turn, from the first one on, of none more than a ring holds
 pub record AreInTurns (ring : ℕ) (notes : List Note) : Type 0 where
@@ -104,12 +111,13 @@ pub record AreInTurnsBelow (ring number : ℕ) (notes : List Note) : Type 0 wher
   pub in_turns : AreInTurns ring notes
   pub below : All (λ note. note.thread < number) notes
 
--- at most so many such notes were pulled
+-- at most so many such notes were pulled. No broken lane is mended
 pub record ArePulls (AreTheirs : List Note → Type 0) (most : ℕ) (old : Running)
     (count : PulledCount) (new : Running) : Type 0 where
   pub limits : new.limits ≡ old.limits
   pub pulled : ArePulled AreTheirs old.collector new.collector count
   pub most_are : count.events + count.ended ≤ most
+  pub stay : StayBroken old.collector new.collector
 
 -- at most so many notes were pulled off the thread's lane, and fewer where it doesn't end well
 pub record IsPullOff (thread most : ℕ) (old : Running) (count : PulledCount) (answer : ℕ)

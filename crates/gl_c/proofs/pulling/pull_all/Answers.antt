@@ -21,6 +21,7 @@ returns-then-answer-ne-OK c =
         pulled = subst (λ (r : ℕ). ArePulled (AreInTurns r) c.args.running.now.collector c.pull_off-answer.new.running.collector c.both-pulled.result) c.ring-ring.ensures.value
             (turns_of c.ring-ring.result _ c.args.running.now.collector c.pull_off-answer.new.running.collector c.both-pulled.result all);
         most_are = omega (arith, ap (λ (p : PulledCount). p.events) sums, ap (λ (p : PulledCount). p.ended) sums);
+        stay = λ thread why was. off.moved.stay thread why (c.loop-number.invariant.stay thread why was);
       };
       fewer = λ ill. (let one_fewer = off.fewer ill in omega (arith, ap (λ (p : PulledCount). p.events) sums, ap (λ (p : PulledCount). p.ended) sums));
       ends = record {
@@ -59,6 +60,7 @@ loop-number-preserved c =
           (let some_ring = c.ring-ring.ensures.within.some_ring in
           whole_next c.loop-number.number c.loop-number.running.collector c.pull_off-answer.new.running.collector (c.loop-number.invariant.whole (omega (arith, events, ended))) off.others
           (off.ends.whole (λ broken. omega arith) (omega (arith, events, ended))));
+      stay = λ thread why was. off.moved.stay thread why (c.loop-number.invariant.stay thread why was);
       behind = λ thread past. off.others thread (λ same. omega arith) ∙ c.loop-number.invariant.behind thread (omega arith);
     }
 
@@ -72,6 +74,7 @@ returns c =
         pulled = subst (λ (r : ℕ). ArePulled (AreInTurns r) c.args.running.now.collector now c.loop-number.pulled) c.ring-ring.ensures.value
             (turns_of c.ring-ring.result _ c.args.running.now.collector now c.loop-number.pulled c.loop-number.invariant.pulled);
         most_are = c.loop-number.invariant.most_are;
+        stay = c.loop-number.invariant.stay;
       };
       fewer = λ ill. absurd (ill refl);
       ends = record {
