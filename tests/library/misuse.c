@@ -1,7 +1,7 @@
 /* Uses goodlock.h wrongly, leaves its sessions in mid-course, and refuses it memory.
  *
  *     library_misuse misuse     each call on handles and numbers that it doesn't take
- *     library_misuse limits     64 locks, 1,000,000 acquires, 1,024 threads, names
+ *     library_misuse limits     64 locks, 1,000,000 acquires, 1,024 threads, names, a pull of more than a ring holds
  *     library_misuse memory     one session, in which the first request for memory is refused, then the second ..; it
  *                               pulls off all lanes, and again off one lane after the other
  *     library_misuse fork       children that are forked while another thread records, and leave by _exit
@@ -698,7 +698,7 @@ static void names(void)
 
 /* ---- Leaving in mid-course */
 
-enum { LONG_RING = 16384, FORKS = 5, MOST_FORKS = 200 };
+enum { LONG_RING = 16384, FORKS = 5, MOST_FORKS = 200, MOST_PULLS = 200 };
 
 /* A thread that records while the main thread forks. */
 struct beside {
@@ -791,6 +791,37 @@ static void in_a_child(void)
     goodlock_session_free(&session);
 }
 
+/* A pull off one lane takes more than its ring holds where the thread goes on meanwhile. */
+static void beyond_a_ring(void)
+{
+    goodlock_session session;
+    goodlock_lane lanes[2];
+    goodlock_pulled pulled = {0, 0};
+    struct beside beside = {.lane = &lanes[1]};
+    pthread_t thread;
+    unsigned events = 0, wrong = 0;
+    open_two(&session, lanes, LONG_RING);
+    check(pthread_create(&thread, NULL, record_beside, &beside) == 0, "a thread is started");
+    for (int i = 0; i < MOST_PULLS && pulled.events <= LONG_RING; i++) {
+        while (beside.recorded < events + LONG_RING)
+            sched_yield();
+        wrong += goodlock_pull_lane(&session, 1, 2 * LONG_RING, &pulled) != GOODLOCK_OK;
+        events += pulled.events;
+    }
+    check(pulled.events > LONG_RING, "a lane whose thread goes on gives more than its ring holds");
+    beside.is_over = true;
+    while (pulled.ended == 0) {
+        wrong += goodlock_pull_lane(&session, 1, 2 * LONG_RING, &pulled) != GOODLOCK_OK;
+        events += pulled.events;
+        sched_yield();
+    }
+    pthread_join(thread, NULL);
+    check(wrong == 0 && beside.wrong == 0 && events == beside.recorded, "all that was recorded is pulled off the lane");
+    goodlock_lane_free(&lanes[0]);
+    goodlock_lane_free(&lanes[1]);
+    goodlock_session_free(&session);
+}
+
 static void *record_for_ever(void *argument)
 {
     goodlock_lane *lane = argument;
@@ -832,6 +863,7 @@ int main(int count, char **words)
         many_notes();
         many_threads();
         names();
+        beyond_a_ring();
     } else if (strcmp(word, "memory") == 0) {
         refuse_memory();
     } else if (strcmp(word, "fork") == 0) {

@@ -1,6 +1,7 @@
 -- What pulls one after the other come to.
 use Rattle.std.proofs.Common.{◌≡◌, ℕ, zero, suc, ◌<◌, List, [], ◌∷◌, ◌++◌, length, Some, None, Result, Ok, Err, refl, sym, ap, subst, ◌∙◌, append_assoc, arith, inl, inr}
 use Rattle.std.specs.Prelude.{slice_get, slice_set, option_and_then, All, IsSome}
+use Rattle.std.proofs.lemmas.Bool.{cases_lt}
 use Rattle.std.proofs.lemmas.List.{append-nil}
 use Rattle.std.proofs.lemmas.List.Elements.{All-nil}
 use Rattle.gl_event.specs.declared.notes.Note.{Note}
@@ -10,7 +11,7 @@ use Rattle.gl_engine.specs.declared.pulled.Pulled.{Pulled}
 use Rattle.gl_engine.specs.declared.pulled.Pulled.TheVariants.{Empty, Event, Ended}
 use Rattle.gl_engine.specs.declared.pulled.PullFault.{PullFault}
 use Rattle.gl_engine.specs.declared.pulled.PullFault.TheVariants.{Broken, Memory}
-use Rattle.gl_c.specs.Pulling.{both, broken_at, counted, none_pulled, AreOthersSame, ArePulled, AreOfThread, IsNoPull, IsOnePull, IsStillThat}
+use Rattle.gl_c.specs.Pulling.{both, broken_at, counted, none_pulled, AreOthersSame, ArePulled, AreOfThread, IsNoPull, IsOnePull, IsStillThat, StayBroken}
 use Rattle.gl_c.specs.declared.codes.TheConstants.{OK, MEMORY, BROKEN}
 use Rattle.gl_c.specs.declared.pulling.PulledCount.{PulledCount}
 use Rattle.gl_c.proofs.Counts.{counted-append, end_counted, event_counted}
@@ -48,6 +49,20 @@ module _ (thread : ℕ) (old new : Collecting) (still : IsStillThat old new) (in
   others_same : (side : Side) → new ≡ with_side old thread side → AreOthersSame thread old new
   others_same side moved other differ = ap (λ (c : Collecting). broken_at c other) moved ∙ ap (option_and_then (λ (r : Pulling). r.broken)) (unwritten old.inputs thread other side.input differ)
 
+  stay_by : (side : Side) → new ≡ with_side old thread side → ((why : Refused) → input.broken ≡ Some why → side.input.broken ≡ Some why) → StayBroken old new
+  stay_by side moved own other why was =
+      elim (cases_lt other thread) [
+        | inl before ↦ others_same side moved other (λ same. omega arith) ∙ was
+        | inr not_before ↦
+            elim (cases_lt thread other) [
+              | inl behind ↦ others_same side moved other (λ same. omega arith) ∙ was
+              | inr not_behind ↦
+                  let is : other ≡ thread = omega arith in
+                  let here_was : broken_at old thread ≡ Some why = subst (λ (k : ℕ). broken_at old k ≡ Some why) is was in
+                  subst (λ (k : ℕ). broken_at new k ≡ Some why) (sym is) (broken_here side moved ∙ own why (sym (ap (option_and_then (λ (r : Pulling). r.broken)) here) ∙ here_was))
+            ]
+      ]
+
   moved_one : (side : Side) (note : Note) (one : PulledCount) → new ≡ with_side old thread side → side.stream ≡ old.stream ++ as_of thread note ∷ [] → counted (as_of thread note ∷ []) ≡ one
       → ArePulled (AreOfThread thread) old new one
   moved_one side note one moved joins counts = record {
@@ -66,6 +81,7 @@ module _ (thread : ℕ) (old new : Collecting) (still : IsStillThat old new) (in
         is_one = refl;
         whole = broken_here is.side is.moved ∙ ap (λ (s : Side). s.input.broken) is.tells.moved ∙ is.tells.running;
         others = others_same is.side is.moved;
+        stay = stay_by is.side is.moved (λ why was. ap (λ (s : Side). s.input.broken) is.tells.moved ∙ was);
       }
 
   end_pulled : (count : ℕ) → IsPull old thread input (Ok (Ended count)) new → IsOnePull thread old (record { events = 0; ended = 1 }) new
@@ -76,6 +92,7 @@ module _ (thread : ℕ) (old new : Collecting) (still : IsStillThat old new) (in
         is_one = refl;
         whole = broken_here is.side is.moved ∙ ap (λ (s : Side). s.input.broken) is.tells.moved ∙ is.tells.running;
         others = others_same is.side is.moved;
+        stay = stay_by is.side is.moved (λ why was. ap (λ (s : Side). s.input.broken) is.tells.moved ∙ was);
       }
 
   moved_none : (side : Side) → new ≡ with_side old thread side → side.stream ≡ old.stream → ArePulled (AreOfThread thread) old new none_pulled
@@ -96,6 +113,7 @@ module _ (thread : ℕ) (old new : Collecting) (still : IsStillThat old new) (in
       whole = λ _ _. broken_here is.side is.moved ∙ ap (λ (s : Side). s.input.broken) is.tells.1 ∙ is.tells.0;
     };
     others = others_same is.side is.moved;
+    stay = stay_by is.side is.moved (λ why was. ap (λ (s : Side). s.input.broken) is.tells.1 ∙ was);
   }
 
   memory_pulled : IsPull old thread input (Err Memory) new → IsNoPull thread old MEMORY new
@@ -107,10 +125,12 @@ module _ (thread : ℕ) (old new : Collecting) (still : IsStillThat old new) (in
       whole = λ _ _. broken_here is.side is.moved ∙ ap (λ (s : Side). s.input.broken) is.tells.1 ∙ is.tells.0;
     };
     others = others_same is.side is.moved;
+    stay = stay_by is.side is.moved (λ why was. ap (λ (s : Side). s.input.broken) is.tells.1 ∙ was);
   }
 
-  broken_side : (side : Side) (why : Refused) → new ≡ with_side old thread side → side.stream ≡ old.stream → side.input.broken ≡ Some why → IsNoPull thread old BROKEN new
-  broken_side side why moved same broken = record {
+  broken_side : (side : Side) (why : Refused) → new ≡ with_side old thread side → side.stream ≡ old.stream → side.input.broken ≡ Some why
+      → ((other : Refused) → input.broken ≡ Some other → side.input.broken ≡ Some other) → IsNoPull thread old BROKEN new
+  broken_side side why moved same broken own = record {
     none = moved_none side moved same;
     ends = record {
       answers = refl;
@@ -118,13 +138,15 @@ module _ (thread : ℕ) (old new : Collecting) (still : IsStillThat old new) (in
       whole = λ unless _. absurd (unless refl);
     };
     others = others_same side moved;
+    stay = stay_by side moved own;
   }
 
   broken_pulled : (why : Refused) → IsPull old thread input (Err (Broken why)) new → IsNoPull thread old BROKEN new
   broken_pulled why is =
       elim is.tells [
-        | inl same ↦ broken_side is.side why is.moved (ap (λ (s : Side). s.stream) same.1) (ap (λ (s : Side). s.input.broken) same.1 ∙ same.0)
+        | inl same ↦ broken_side is.side why is.moved (ap (λ (s : Side). s.stream) same.1) (ap (λ (s : Side). s.input.broken) same.1 ∙ same.0) (λ other was. ap (λ (s : Side). s.input.broken) same.1 ∙ was)
         | inr has ↦ broken_side is.side why is.moved (ap (λ (s : Side). s.stream) has.moved) (ap (λ (s : Side). s.input.broken) has.moved)
+            (λ other was. (let clash : None ≡ Some other = sym has.running ∙ was in cc))
       ]
 
 -- ---- the same by what is answered

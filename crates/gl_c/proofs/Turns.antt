@@ -8,7 +8,7 @@ use Rattle.std.proofs.lemmas.List.Sums.{count_by-le-length, sum_by-append, sum_b
 use Rattle.gl_event.specs.declared.notes.Note.{Note}
 use Rattle.std.proofs.lemmas.Option.{slice_get_past}
 use Rattle.gl_engine.specs.Collecting.{Collecting, Pulling}
-use Rattle.gl_c.specs.Pulling.{both, ArePulled, AreInTurns, AreInTurnsBelow, AreOfThread, broken_at, AreOthersSame}
+use Rattle.gl_c.specs.Pulling.{both, ArePulled, AreInTurns, AreInTurnsBelow, AreOfThread, broken_at, AreOthersSame, IsLaneEnd}
 use Rattle.gl_c.specs.declared.pulling.PulledCount.{PulledCount}
 use Rattle.gl_c.proofs.Counts.{total_counted}
 use Rattle.gl_c.proofs.Pulls.{pulled_more}
@@ -109,3 +109,21 @@ whole_all threads c count each t =
       | inl known ↦ each t known
       | inr past ↦ ap (option_and_then (λ (r : Pulling). r.broken)) (slice_get_past c.inputs t (omega arith))
     ]
+
+-- the notes of the threads up to this one are of none behind it
+pub none_behind : (ring number : ℕ) (a b : Collecting) (count : PulledCount) → ArePulled (AreInTurnsBelow ring (number + 1)) a b count → ArePulled (All (λ (note : Note). note.thread ≤ number)) a b count
+none_behind ring number a b count pulled = record {
+  still = pulled.still;
+  notes = pulled.notes;
+  theirs = λ k d within. (let up_to = pulled.theirs.below k d within in omega arith);
+  joined = pulled.joined;
+  count_is = pulled.count_is;
+}
+
+-- pulls off a lane of which some were asked for end as one pull does
+pub ends_as_one : (thread most : ℕ) (now : Collecting) (answer : ℕ) → IsLaneEnd thread most now answer → 0 < most → IsLaneEnd thread 1 now answer
+ends_as_one thread most now answer ends some = record {
+  answers = ends.answers;
+  broken = ends.broken;
+  whole = λ unless _. ends.whole unless some;
+}

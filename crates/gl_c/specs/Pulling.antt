@@ -1,5 +1,5 @@
 -- What pulls change of a session.
-use Rattle.std.specs.Prelude.{◌≡◌, ℕ, ◌+◌, ◌<◌, ◌≤◌, ◌==◌, not, List, [], ◌∷◌, ◌++◌, Option, None, count_by, option_and_then, slice_get, All, AllPairs, IsSome}
+use Rattle.std.specs.Prelude.{◌≡◌, ℕ, ◌+◌, ◌<◌, ◌≤◌, ◌==◌, not, List, [], ◌∷◌, ◌++◌, Option, Some, None, count_by, option_and_then, slice_get, All, AllPairs, IsSome}
 use Rattle.gl_event.specs.declared.notes.Note.{Note}
 use Rattle.gl_intake.specs.Stream.{is_end}
 use Rattle.gl_intake.specs.declared.notes.Refused.{Refused}
@@ -51,6 +51,11 @@ AreOfThread thread notes = All (λ note. note.thread ≡ thread) notes
 abbrev pub broken_at : Collecting → ℕ → Option Refused
 broken_at c thread = option_and_then (λ input. input.broken) (slice_get c.inputs thread)
 
+-- a lane that was broken stays so
+abbrev pub StayBroken : Collecting → Collecting → Type 0
+StayBroken old new =
+    (thread : ℕ) (why : Refused) → broken_at old thread ≡ Some why → broken_at new thread ≡ Some why
+
 -- no other thread's lane breaks
 abbrev pub AreOthersSame : ℕ → Collecting → Collecting → Type 0
 AreOthersSame thread old new =
@@ -62,13 +67,23 @@ pub record IsLaneEnd (thread most : ℕ) (now : Collecting) (answer : ℕ) : Typ
   pub broken : answer ≡ BROKEN → IsSome (broken_at now thread)
   pub whole : (answer ≡ BROKEN → ⊥) → 0 < most → broken_at now thread ≡ None
 
--- how pulls off all lanes end: no lane is broken, or as many notes were pulled as were asked for; memory was refused; or a lane is broken
-pub record IsEndOfAll (most : ℕ) (now : Collecting) (count : PulledCount)
+-- pulls off all lanes stopped at this thread's: memory was refused there, or its lane is broken. No lane before it is; nothing was
+-- pulled off those behind it, and they weren't looked at
+pub record IsStopAt (thread : ℕ) (old now : Collecting) (count : PulledCount)
+    (answer : ℕ) : Type 0 where
+  pub known : thread < old.limits.threads
+  pub ends : IsLaneEnd thread 1 now answer
+  pub ahead : (other : ℕ) → other < thread → broken_at now other ≡ None
+  pub pulled : ArePulled (All (λ note. note.thread ≤ thread)) old now count
+  pub behind : (other : ℕ) → thread < other → broken_at now other ≡ broken_at old other
+
+-- how pulls off all lanes end: no lane is broken, or as many notes were pulled as were asked for; or they stopped at a lane
+pub record IsEndOfAll (most : ℕ) (old now : Collecting) (count : PulledCount)
     (answer : ℕ) : Type 0 where
   pub answers : IsOneOf answer (OK ∷ MEMORY ∷ BROKEN ∷ [])
-  pub broken : answer ≡ BROKEN → (thread : ℕ) × IsSome (broken_at now thread)
   pub whole : answer ≡ OK → count.events + count.ended < most → (thread : ℕ)
       → broken_at now thread ≡ None
+  pub stopped : (answer ≡ OK → ⊥) → (thread : ℕ) × IsStopAt thread old now count answer
 
 -- one of the thread's notes was pulled
 pub record IsOnePull (thread : ℕ) (old : Collecting) (one : PulledCount)
@@ -77,12 +92,14 @@ pub record IsOnePull (thread : ℕ) (old : Collecting) (one : PulledCount)
   pub is_one : one.events + one.ended ≡ 1
   pub whole : broken_at new thread ≡ None
   pub others : AreOthersSame thread old new
+  pub stay : StayBroken old new
 
 -- none of them was, for this reason
 pub record IsNoPull (thread : ℕ) (old : Collecting) (answer : ℕ) (new : Collecting) : Type 0 where
   pub none : ArePulled (AreOfThread thread) old new none_pulled
   pub ends : IsLaneEnd thread 1 new answer
   pub others : AreOthersSame thread old new
+  pub stay : StayBroken old new
 
 -- notes of each thread in turn, from the first one on, of none more than a ring holds
 pub record AreInTurns (ring : ℕ) (notes : List Note) : Type 0 where
@@ -94,25 +111,28 @@ pub record AreInTurnsBelow (ring number : ℕ) (notes : List Note) : Type 0 wher
   pub in_turns : AreInTurns ring notes
   pub below : All (λ note. note.thread < number) notes
 
--- at most so many such notes were pulled
+-- at most so many such notes were pulled. No broken lane is mended
 pub record ArePulls (AreTheirs : List Note → Type 0) (most : ℕ) (old : Running)
     (count : PulledCount) (new : Running) : Type 0 where
   pub limits : new.limits ≡ old.limits
   pub pulled : ArePulled AreTheirs old.collector new.collector count
   pub most_are : count.events + count.ended ≤ most
+  pub stay : StayBroken old.collector new.collector
 
--- at most so many notes were pulled off the thread's lane
+-- at most so many notes were pulled off the thread's lane, and fewer where it doesn't end well
 pub record IsPullOff (thread most : ℕ) (old : Running) (count : PulledCount) (answer : ℕ)
     (new : Running) : Type 0 where
   pub moved : ArePulls (AreOfThread thread) most old count new
+  pub fewer : (answer ≡ OK → ⊥) → count.events + count.ended < most
   pub ends : IsLaneEnd thread most new.collector answer
   pub others : AreOthersSame thread old.collector new.collector
 
--- at most so many notes were pulled, off each lane in turn
+-- at most so many notes were pulled, off each lane in turn, and fewer where it doesn't end well
 pub record IsPullAll (most : ℕ) (old : Running) (count : PulledCount) (answer : ℕ)
     (new : Running) : Type 0 where
   pub moved : ArePulls (AreInTurns old.limits.ring) most old count new
-  pub ends : IsEndOfAll most new.collector count answer
+  pub fewer : (answer ≡ OK → ⊥) → count.events + count.ended < most
+  pub ends : IsEndOfAll most old.collector new.collector count answer
 
 -- at most so many of the thread's notes were pulled, if there is such a thread
 pub record IsPullOfLane (thread most : ℕ) (old : Running) (count : PulledCount) (answer : ℕ)

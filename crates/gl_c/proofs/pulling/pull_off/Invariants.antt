@@ -1,6 +1,6 @@
 -- Each turn pulled one of the thread's notes.
 use Rattle.std.proofs.Common.{◌≡◌, ◌+◌, ◌<◌, None}
-use Rattle.gl_c.specs.Pulling.{broken_at, ArePulled, AreOfThread, AreOthersSame}
+use Rattle.gl_c.specs.Pulling.{broken_at, ArePulled, AreOfThread, AreOthersSame, StayBroken}
 use Rattle.gl_c.proofs.pulling.pull_off.Given as goal
 
 abbrev pub invariant-loop : goal.invariant-loop
@@ -10,4 +10,5 @@ invariant-loop l = record {
   one_a_turn : l.pulled.events + l.pulled.ended ≡ l.counter;
   whole : 0 < l.counter → broken_at l.running.collector l.thread ≡ None;
   others : AreOthersSame l.thread l.initial.running.collector l.running.collector;
+  stay : StayBroken l.initial.running.collector l.running.collector;
 }
