@@ -11,6 +11,7 @@ there are processors are tried side by side. The last line is `N passed, N faile
 """
 
 import argparse
+import collections
 import concurrent.futures
 import contextlib
 import io
@@ -141,7 +142,6 @@ USAGE = {
 # Options by which the threads of a session wait for one another all the time. A trace here has three threads at most.
 CLOSE = {"live": "--recorders 2 --shards 2 --ring 1", "live --stream": "--shards 2 --ring 1 --threads 3"}
 SHARDS = RECORDERS = 4  # unless they are given
-STARTING = 4  # how many times starting a thread may ask for memory: far less than opening a session does
 
 
 def swept(words, name):
@@ -261,23 +261,24 @@ class Tests:
 
     def memory(self, words, name, text, ample):
         """Each answer is that of ample memory, or tells that memory was refused; or, where not all threads of a session
-        had been started, that one couldn't be. So it is told as memory while a session is opened, but for the few calls
-        that start its first thread, and once all its threads run."""
+        had been started, that one couldn't be. So it is told as memory while a session is opened, but for the calls
+        that start its first thread, of which there are no more than for another one; and once all its threads run."""
         threads = session_threads(words, ample)
         for how in ("once", "onwards"):
-            answers, running, unstarted = [], [], 0
+            answers, running, unstarted = [], [], collections.Counter()
             for number, run in self.runner.sweep(words, text, "memory", how):
                 started = started_before(run)
                 right = [ample, OUT_OF_MEMORY] + [UNCONFIRMED] * (started < threads)
                 self.check(f"{words}, {name}, memory {how} call {number}", right, run)
                 answers.append(run.answer)
                 running += [run.answer] * (started >= threads)
-                unstarted += started == 0 and run.answer == UNCONFIRMED
+                unstarted[started] += run.answer == UNCONFIRMED
             self.check_that(f"{words}, {name}, memory {how}", OUT_OF_MEMORY in answers, "no refusal was told")
             is_told = OUT_OF_MEMORY in running
             self.check_that(f"{words}, {name}, memory {how}", is_told, "no refusal was told once all threads ran")
-            problem = f"{unstarted} calls before the first thread, as if it couldn't be started"
-            self.check_that(f"{words}, {name}, memory {how}", unstarted <= STARTING, problem)
+            most = max((unstarted[started] for started in range(1, threads)), default=0)
+            problem = f"as if it couldn't be started: {unstarted[0]} calls for the first thread, {most} for another"
+            self.check_that(f"{words}, {name}, memory {how}", unstarted[0] <= most, problem)
 
     def threads(self, words, name, text, ample):
         """Where a thread of a session can't be started nothing is recorded, and of a stream nothing is read: that the

@@ -300,6 +300,27 @@ fn findings_of_lists(rt: HostRuntime) {
     }
 }
 
+// Whether it is told that the session of these lists isn't confirmed.
+fn is_unconfirmed<R: AllocGlobal + Threads + Wait + Sync>(rt: &R, lists: &[Vec<Event>]) -> bool {
+    if lists.len() > 16 {
+        return false;
+    }
+    let Some(query) = query_for(1) else {
+        return false;
+    };
+    match run_with(rt, lists, Contents::Cycles, &query) {
+        Err(LiveFault::Unconfirmed) => true,
+        _ => false,
+    }
+}
+
+// A thread releases a lock that it doesn't hold: that isn't recorded, and so nothing is confirmed.
+#[test]
+fn refused_event(rt: HostRuntime) {
+    let lists = lists_of(rt.alloc(), &[ONE, &[Rel(0, 2), Acq(0, 3)]]).expect(&rt, "memory");
+    assert!(rt; is_unconfirmed(&rt, &lists));
+}
+
 // Two workers of a session are both at work at one moment, each on its first edge.
 #[test]
 fn gated_workers(rt: HostRuntime) {
