@@ -231,6 +231,10 @@ public:
         get();
     }
 
+    // The thread gets no lane, now or later: its fork isn't recorded, and without that what it does would seem to happen
+    // beside all that was done before it.
+    static void leave_out() { is_left_out() = true; }
+
     static void finish() {
         mine *const own = get();
         if (own != nullptr)
@@ -261,7 +265,7 @@ private:
             return;
         has_begun = true;
         lane = given();
-        if (lane.at == nullptr)
+        if (lane.at == nullptr && !is_left_out())
             world::get().lane(lane);
     }
 
@@ -272,6 +276,10 @@ private:
     static goodlock_lane &given() {
         static thread_local goodlock_lane lane = {nullptr};
         return lane;
+    }
+    static bool &is_left_out() {
+        static thread_local bool left_out = false;
+        return left_out;
     }
 
     bool has_begun = false;
@@ -444,12 +452,13 @@ public:
               class = typename std::enable_if<!std::is_same<typename std::decay<F>::type, thread>::value>::type>
     explicit thread(F &&f, Arguments &&...arguments) {
         goodlock_lane lane = {nullptr};
-        if (detail::world::get().is_open())
+        const bool is_open = detail::world::get().is_open();
+        if (is_open)
             number = detail::world::get().lane(lane);
         if (number != detail::NONE)
             detail::record(GOODLOCK_FORK, number, nullptr);
         try {
-            inner = std::thread(run<typename std::decay<F>::type, typename std::decay<Arguments>::type...>, lane,
+            inner = std::thread(run<typename std::decay<F>::type, typename std::decay<Arguments>::type...>, is_open, lane,
                                 std::forward<F>(f), std::forward<Arguments>(arguments)...);
         } catch (...) {
             if (number != detail::NONE)
@@ -468,9 +477,12 @@ public:
     std::thread::id get_id() const { return inner.get_id(); }
 
 private:
-    template <class F, class... Arguments> static void run(goodlock_lane lane, F f, Arguments... arguments) {
+    template <class F, class... Arguments>
+    static void run(bool is_recorded, goodlock_lane lane, F f, Arguments... arguments) {
         if (lane.at != nullptr)
             detail::mine::adopt(lane);
+        else if (is_recorded)
+            detail::mine::leave_out();
         std::move(f)(std::move(arguments)...);
     }
 

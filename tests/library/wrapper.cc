@@ -2,7 +2,7 @@
 //
 //     library_wrapper locks       known reports of each kind of lock
 //     library_wrapper names       locks of one name, and of a name that tells such ones apart
-//     library_wrapper memory      locks that get no number, as memory is refused
+//     library_wrapper memory      locks that get no number, and a thread that gets no lane, as memory is refused
 //     library_wrapper threads     many threads with small rings, of which some have no lane
 //     library_wrapper leave       main returns without finish(), while a thread records
 //
@@ -186,6 +186,26 @@ static void names()
     check(result.text == TOLD_APART, "another text:\n" + result.text);
 }
 
+// A thread without memory for its lane isn't recorded later either: that it began after main had taken the two locks in
+// the other order isn't known then.
+static void thread_without_a_lane()
+{
+    goodlock::mutex one("e"), two("f");
+    const auto take_both = [](goodlock::mutex &first, goodlock::mutex &second) {
+        goodlock::guard<goodlock::mutex> outer(first);
+        goodlock::guard<goodlock::mutex> inner(second);
+    };
+    take_both(one, two);
+    requests = 0;
+    refuse_at = 1;
+    is_onwards = was_refused = false;
+    is_counted = true;
+    goodlock::thread thread([&] { take_both(two, one); });
+    is_counted = false;
+    check(was_refused, "memory is refused to a thread's lane");
+    thread.join();
+}
+
 // Two locks that got no number aren't one lock: they aren't recorded, which is told. Others are.
 static void memory()
 {
@@ -204,9 +224,10 @@ static void memory()
     }
     opposite(one, two);
     opposite(c, d);
+    thread_without_a_lane();
     const goodlock::result result = goodlock::finish();
     check(result.code == GOODLOCK_OK && result.is_settled, "the report is settled");
-    check(result.unrecorded == 12, std::to_string(result.unrecorded) + " events weren't recorded, and 12 are right");
+    check(result.unrecorded == 16, std::to_string(result.unrecorded) + " events weren't recorded, and 16 are right");
     check(result.text == OF_TWO, "another text:\n" + result.text);
 }
 
