@@ -83,6 +83,15 @@ SHAPES = {
             "--locks 10000 --sections 100000 --events 800000 --depth 2 --disorder 1 --others 0 ask --len 5 --max 100000",
         ],
     },
+    # Nearly each lock leads to each other one, and little can be left out: what is left is the search itself.
+    "two-orders": {
+        "small": ["--sections 1000", "--sections 1500"],
+        "large": ["--sections 3000", "--threads 16 --locks 60 --sections 2000"],
+    },
+    "all-locks": {
+        "small": ["--sections 60 ask --mode full --len 8 --max 1000"],
+        "large": ["--threads 4 --locks 20 ask --mode full --len 4 --max 1000"],
+    },
     "colliding-names": {"small": ["--locks 10000"], "large": ["--locks 100000"]},
     "ordinary-names": {"small": ["--locks 10000"], "large": ["--locks 100000"]},
 }

@@ -73,6 +73,14 @@ SERVERS = {
 # Each thread takes each two of its locks in both orders, one inside the other. There is no cycle where no two threads have two
 # locks in common, nor under one gate, nor where each thread is joined before the next one is forked.
 PAIRS = {"all-pairs": dict(threads=1, locks=200)}
+# Dense graphs: nearly each lock leads to each other one, and little can be left out before the search.
+DENSE = {
+    # Each time 2 to 6 locks, in one order by the first half of the threads and in another one by the others, under the gate
+    # lock of every second thread: millions of paths, and few cycles.
+    "two-orders": dict(threads=8, locks=40, sections=1_500),
+    # Each time all locks, in any order: all cycles of the first ones begin at one edge.
+    "all-locks": dict(threads=6, locks=16, sections=60),
+}
 # Many threads run one of two pieces of code, on all locks: millions of cycles of one mistake.
 FINDINGS = {"shared-code": dict(threads=1_000, locks=50)}
 NAMES = {"colliding-names": dict(locks=100_000), "ordinary-names": dict(locks=100_000)}
@@ -259,6 +267,24 @@ def all_pairs(options):
             yield from nested(f"T{t}", "Pairs.java", [*gates, held, wanted])
         if options.is_in_turn:
             yield f"main|join(T{t})|Main.java:6"
+
+
+def two_orders(options):
+    draw = random.Random(options.seed)
+    for section in range(options.sections):
+        t = draw.randrange(options.threads)
+        order = 3 * (t // max(1, options.threads // 2))
+        numbers = draw.sample(range(options.locks), draw.randint(2, min(6, options.locks)))
+        numbers.sort(key=lambda number: (7 * number + order) % options.locks)
+        locks = [f"lock{number}" for number in numbers]
+        yield from nested(f"T{t}", f"Piece{section % 40}.java", [f"gate{t % 2}", *locks])
+
+
+def all_locks(options):
+    draw = random.Random(options.seed)
+    for section in range(options.sections):
+        locks = [f"lock{number}" for number in draw.sample(range(options.locks), options.locks)]
+        yield from nested(f"T{draw.randrange(options.threads)}", f"Piece{section % 60}.java", locks)
 
 
 class Server:
@@ -452,6 +478,8 @@ MADE_BY = {
     "early-and-late": early_and_late,
     "few-threads": few_threads,
     "all-pairs": all_pairs,
+    "two-orders": two_orders,
+    "all-locks": all_locks,
     "item-locks": lambda options: Server(options).cache(),
     "long-sections": lambda options: Server(options).cache(),
     "connections": lambda options: Server(options).connections(),
@@ -494,7 +522,7 @@ def main():
     options = parser.parse_args()
     for name, value in {
         **GENERAL,
-        **{**SHAPES, **KNOTS, **SERVERS, **PAIRS, **FINDINGS, **NAMES}[options.shape],
+        **{**SHAPES, **KNOTS, **SERVERS, **PAIRS, **DENSE, **FINDINGS, **NAMES}[options.shape],
     }.items():
         if getattr(options, name, None) is None:
             grows = name == "locks" and options.shape in SERVERS
@@ -510,6 +538,8 @@ def main():
             parser.error(f"--{name.replace('_', '-')} is from {least} to {most}")
     if options.is_ring and options.depth > options.locks:
         parser.error("--depth is at most --locks in a ring")
+    if options.shape in DENSE and not 2 <= options.locks <= 64:
+        parser.error("a dense graph has 2 to 64 --locks, as a thread may hold so many")
     if options.shape in KNOTS and (options.sections < 3 or options.gates >= options.sections):
         parser.error("a knot has three --sections or more, and fewer --gates")
     if options.shape in MADE_BY:

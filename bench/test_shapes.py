@@ -22,6 +22,7 @@ import make_trace  # noqa: E402
 PROGRAM = os.environ.get("PROGRAM", BENCH.parent / "prebuilt" / "goodlock")
 SERVER = BENCH / "traces" / "cache-server.std.xz"
 SHAPES = sorted(make_trace.SERVERS)
+DENSE = sorted(make_trace.DENSE)
 SAMPLES = sorted({*(BENCH.parent / "samples").glob("*.std")} - {BENCH.parent / "samples" / "bad_line.std"})  # refused
 COUNTS = ("events", "threads", "locks", "segments", "edges")
 
@@ -151,7 +152,27 @@ def test_each_lock_has_one_holder(shape):
     assert holders == {}
 
 
-@pytest.mark.parametrize("shape", SHAPES)
+@pytest.mark.parametrize("shape", DENSE)
+def test_dense_shape_is_dense(shape):
+    """Of nearly each two locks one is taken inside the other, or in both orders."""
+    text = made(shape, 0)
+    counted = stats_of(text)
+    assert counted["skipped"] == counted["stray"] == 0
+    held, nested = {}, set()
+    for line in text.splitlines():
+        thread, call, _ = line.split("|")
+        word, _, lock = call.rstrip(")").partition("(")
+        locks = held.setdefault(thread, [])
+        if word == "rel":
+            assert locks.pop() == lock, line
+            continue
+        nested |= {frozenset((outer, lock)) for outer in locks if outer.startswith("lock")}
+        locks.append(lock)
+    number = make_trace.DENSE[shape]["locks"]
+    assert 0.9 * number * (number - 1) / 2 < len(nested) <= number * (number - 1) / 2
+
+
+@pytest.mark.parametrize("shape", SHAPES + DENSE)
 def test_same_seed_same_trace(shape):
     assert (
         made(shape, 20_000, "--seed", "5") == made(shape, 20_000, "--seed", "5") != made(shape, 20_000, "--seed", "6")
