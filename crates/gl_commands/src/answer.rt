@@ -22,7 +22,7 @@ use gl_cycles::Report;
 use gl_edges::{EdgeList, edges_of_parallel};
 use gl_event::Memory;
 use gl_filters::Query;
-use gl_findings::{Contents, Listing, report_with_parallel};
+use gl_findings::{Contents, Listing, report_with, report_with_parallel};
 use gl_options::Form;
 use gl_report::{Stats, findings_json_text, findings_text, json_text, stats_text, text};
 use gl_segments::{Order, OrderFault};
@@ -151,6 +151,25 @@ fn edges_in(
     edges_of_parallel(rt, alloc, trace.lists.as_slice(), threads)
 }
 
+// The report over these edges. Cycles are sought in several threads, unless there is to be one.
+fn report_over(
+    rt: &(impl Threads + Sync),
+    alloc: Global,
+    contents: Contents,
+    edges: EdgeList,
+    order: &Order,
+    query: &Query,
+    threads: usize,
+) -> Result<Report, Memory>
+    ensures { IfOk result
+        (λ r. r ≡ report_with contents query.now (is_before order.now) edges) }
+{
+    if threads < 2 {
+        return report_with(alloc, contents, edges, order, query);
+    }
+    report_with_parallel(rt, alloc, contents, edges, order, query)
+}
+
 // The report of a trace whose segments have this order. So many threads look for its edges.
 fn report_by(
     rt: &(impl Threads + Sync),
@@ -167,7 +186,7 @@ fn report_by(
         ≡ report_with contents query.now (is_before order.now) (edges trace.now.lists)) }
 {
     let edges = edges_in(rt, alloc, trace, threads)?;
-    report_with_parallel(rt, alloc, contents, edges, order, query)
+    report_over(rt, alloc, contents, edges, order, query, threads)
 }
 
 // The report of a trace, or the line that says which segment is before itself.

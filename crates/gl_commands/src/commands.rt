@@ -149,7 +149,7 @@ fn predict_listing<R: AllocGlobal + Threads + Sync, I: Source, O: Sink>(
 /// The report is made whole before its first byte is written. Where the input can't be read to its
 /// end, the first fault in the lines that were ended before is answered, else
 /// [`Ended::ReadFailed`]. Each reader and writer is used only while it hasn't failed. Cycles are sought in
-/// several threads.
+/// several threads, unless one is to read.
 pub fn predict<R: AllocGlobal + Threads + Sync, I: Source, O: Sink>(
     rt: &R,
     input: &mut I,
@@ -169,7 +169,7 @@ pub fn predict<R: AllocGlobal + Threads + Sync, I: Source, O: Sink>(
 /// Reads a trace, predicts its deadlocks and writes the findings in the form asked for: each signature of the
 /// cycles once, shown by the first of its cycles.
 ///
-/// Reads, refuses and fails as [`predict`] does. Findings are sought in several threads.
+/// Reads, refuses and fails as [`predict`] does. Findings are sought in several threads, unless one is to read.
 pub fn predict_findings<R: AllocGlobal + Threads + Sync, I: Source, O: Sink>(
     rt: &R,
     input: &mut I,

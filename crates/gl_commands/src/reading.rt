@@ -15,7 +15,7 @@ pub struct Reading {
     /// What the hash of names begins with: for texts of others, one that was drawn at random.
     pub seed: Seed,
     /// How many threads read the trace, and look for its edges, or 0: one for each processor that the
-    /// program may use.
+    /// program may use. With one, cycles and findings are sought in that one too.
     pub jobs: u32,
 }
 

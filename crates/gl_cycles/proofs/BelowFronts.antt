@@ -1,5 +1,5 @@
 -- What lies below a front, by what the front is.
-use Rattle.std.proofs.Common.{◌≡◌, ◌≢◌, ℕ, suc, Bool, true, false, cond, List, [], ◌∷◌, ◌++◌, length, map, filter, Some, None, refl, sym, ap, ◌∙◌, inl, inr}
+use Rattle.std.proofs.Common.{◌≡◌, ◌≢◌, ◌⊎◌, ℕ, suc, Bool, true, false, cond, List, [], ◌∷◌, ◌++◌, length, map, filter, Some, None, refl, sym, ap, ◌∙◌, inl, inr}
 use Rattle.std.specs.Prelude.{slice_get}
 use Rattle.std.specs.List.{flat_map, range_with_len, cons_option}
 use Rattle.std.proofs.lemmas.Bool.{and_left, and_right, eq-eqb, cases_eq, not_from_true}
@@ -8,7 +8,7 @@ use Rattle.gl_event.specs.declared.events.Segment.{Segment}
 use Rattle.gl_edges.specs.declared.edge.Edge.{Edge}
 use Rattle.gl_filters.specs.declared.query.Mode.{Mode}
 use Rattle.gl_filters.proofs.Cycling.{leads_not, leads_same}
-use Rattle.gl_filters.specs.Test.{goes_with, is_path, is_cycle, can_follow, leads_back, last_of}
+use Rattle.gl_filters.specs.Test.{goes_with, leads_to, is_path, is_cycle, can_follow, leads_back, last_of}
 use Rattle.gl_filters.proofs.Paths.{is_path_push, is_path-cut}
 use Rattle.gl_filters.specs.Picked.{picked}
 use Rattle.gl_cycles.specs.AllCycles.{lists_below, all_cycles}
@@ -74,6 +74,14 @@ module _ (before : Segment → Segment → Bool) (mode : Mode) (edges : List Edg
   same_held : (e f : Edge) → e.held ≡ f.held → goes_with before mode e f ≡ false
   unfolding goes_with
   same_held e f same = and_left _ _ (and_left _ _ (not_from_true _ (eq-eqb _ _ same)))
+
+  -- what the one edge leads on to doesn't go with an edge that holds the lock which the first wants
+  pub led_or_apart : (d e f : Edge) → e.held ≡ d.wanted → (leads_to d f ≡ false) ⊎ (goes_with before mode e f ≡ false)
+  led_or_apart d e f same =
+      elim (cases_eq d.wanted f.held) [
+        | inl is ↦ inr (same_held e f (same ∙ is))
+        | inr other ↦ inl (leads_not d f other)
+      ]
 
   -- nothing follows a last edge that leads back to the first
   pub none_after_closed : (e : Edge) (es : List Edge) (f : Edge) → leads_back (e ∷ es) ≡ true → can_follow before mode (e ∷ es) f ≡ false

@@ -121,6 +121,19 @@ module _ (before : Segment → Segment → Bool) (mode : Mode) (edges : List Edg
   grow_short room unclosed =
       sym (ap (λ l. take cap (old ++ l)) (block-zero before mode edges front ∙ ap (λ b. cond b (front ∷ []) []) (not_cycle before mode edges 0 front cap unclosed)) ∙ ap (take cap) (append-nil old) ∙ take_all cap old room)
 
+  -- a path behind which no edge may come, and which isn't closed
+  pub grow_none : (n : ℕ) → length old ≤ cap → leads_back (picked edges front) ≡ false → ((f : Edge) → can_follow before mode (picked edges front) f ≡ false)
+      → old ≡ take cap (old ++ block before mode edges n front)
+  grow_none zero room unclosed none = grow_short room unclosed
+  grow_none (suc n) room unclosed none =
+      let alone : block before mode edges (suc n) front ≡ [] =
+      block-suc before mode edges n front
+      ∙ ap (λ l. cond (is_cycle before mode (picked edges front)) (front ∷ []) [] ++ l)
+      (upto-until (λ i. block before mode edges n (front ++ i ∷ [])) 0 (length edges) (omega arith)
+      (λ i from below. let here = element_at edges i below in block-stray before mode edges n front i here.0 here.1 (none here.0)))
+      ∙ ap (λ b. cond b (front ∷ []) [] ++ []) (not_cycle before mode edges (suc n) front cap unclosed) in
+      sym (ap (λ l. take cap (old ++ l)) alone ∙ ap (take cap) (append-nil old) ∙ take_all cap old room)
+
   none_after : (es : List Edge) (f : Edge) → leads_back es ≡ true → can_follow before mode es f ≡ false
   none_after [] f closed = absurd (false≢true closed)
   none_after (e ∷ es) f closed = none_after_closed before mode edges e es f closed

@@ -108,13 +108,31 @@ impl Searcher<'_> {
         let edge = &self.table[next].0;
         let first = path[0];
         let last = path[path.len() - 1];
-        if !leads_on(&self.table[last].0, edge) {
-            return false;
-        }
         if edge.thread < self.table[first].0.thread {
             return false;
         }
+        if !leads_on(&self.table[last].0, edge) {
+            return false;
+        }
         self.goes_with_all(path, edge)
+    }
+
+    // Whether the path's last edge wants a lock that an edge of the path holds. None may follow then, since held locks
+    // differ.
+    fn wants_held(&self, path: &[usize]) -> bool
+        requires some { 0 < length path.now }
+        requires within { All (λ i. i < length self.now.table.now) path.now }
+        ensures { result ≡ true → (f : Edge)
+            → can_follow (is_before self.now.order.now) self.now.mode
+            (picked (edges_of_table self.now.table.now) path.now) f ≡ false }
+    {
+        let wanted = self.table[path[path.len() - 1]].0.wanted;
+        for &i in path {
+            if self.table[i].0.held == wanted {
+                return true;
+            }
+        }
+        false
     }
 
     // The first cycles, up to the cap, of which those that begin with edges before a root were found.
@@ -293,6 +311,9 @@ impl Searcher<'_> {
             return Ok(());
         }
         if path.len() == self.len {
+            return Ok(());
+        }
+        if self.wants_held(path) {
             return Ok(());
         }
         if path.len() + 1 == self.len {

@@ -43,7 +43,8 @@ pub fn search(
 }
 
 /// The same as [`search`], on several threads. The steps that a search takes before more edges are left
-/// out are taken in one thread, and so is what leaves them out with as much effort. The last time they
+/// out are taken in one thread, and so is what leaves them out with as much effort; where that would be many, this is passed
+/// over. The last time edges
 /// are dealt out to parts, each of which leaves out some of its own. Then each edge from the one on where the search stands is
 /// the first of paths, and the edges are dealt out in runs: the first few to one thread, and then each
 /// time as many as were dealt out before, in pieces of one length. The search ends after the run in

@@ -11,7 +11,8 @@
 //!
 //! In each round edges are left out for one reason after the other. Before the last round the efforts
 //! are bound, so what comes too dear is tried again. In the last one edges are left out with all the
-//! effort that each reason makes at most, and the search then goes on to its end.
+//! effort that each reason makes at most, and the search then goes on to its end, on several threads if there are any. As a
+//! round goes on in one thread, those that have many steps are passed over then.
 ghost use Rattle.std.specs.Prelude.{◌≡◌, ◌<◌, ◌≤◌, ◌*◌, ◌-◌, ◌^◌, min, max, take, IfOk, OnOk};
 ghost use Rattle.gl_segments.specs.Clocks.{is_before};
 ghost use Rattle.gl_filters.specs.Picked.{edges_of_table};
@@ -30,6 +31,10 @@ use std::thread::Threads;
 
 // The number of the last round, from 0.
 const LAST: usize = 2;
+
+// How many steps a round has at most where there are several threads: one of them takes so many in no more time than it
+// takes to leave out edges with all the effort, and what needs more is dealt out.
+const STEPS_ALONE: usize = 3_000_000;
 
 // How many steps a search has at first for each edge, and how many at least.
 const STEPS_OF_EDGE: usize = 64;
@@ -87,12 +92,13 @@ fn search_on(
     search.go_on(alloc, effort, from, found)
 }
 
-// Searches in rounds, and leaves edges out between them. The root at which the search stands then, with
-// no more steps to take.
+// Searches in rounds of no more than so many steps after the first, and leaves edges out between them. The root at which the
+// search stands then.
 fn search_in_rounds(
     alloc: Global,
     sought: &Sought<'_>,
     cap: usize,
+    most: usize,
     kept: &mut Vec<bool>,
     found: &mut Vec<Vec<usize>>,
 ) -> Result<usize, Memory>
@@ -108,7 +114,7 @@ fn search_in_rounds(
     for round in 0..LAST {
         let steps = steps_of(round, sought.table.len());
         root = search_on(alloc, sought, cap, steps, kept, root, found)?;
-        if root >= sought.table.len() {
+        if root >= sought.table.len() || steps_of(round + 1, sought.table.len()) > most {
             return Ok(root);
         }
         sought.leave_out_in_turn(alloc, effort_of(steps), kept)?;
@@ -133,7 +139,7 @@ pub(crate) fn first_cycles(
 {
     let mut kept = sought.kept_at_first(alloc)?;
     let mut found = Vec::new(alloc);
-    let root = search_in_rounds(alloc, sought, cap, &mut kept, &mut found)?;
+    let root = search_in_rounds(alloc, sought, cap, usize::MAX, &mut kept, &mut found)?;
     if root >= sought.table.len() {
         return Ok(found);
     }
@@ -142,8 +148,8 @@ pub(crate) fn first_cycles(
     search.first_cycles(alloc, root, found)
 }
 
-/// The same as [`first_cycles`], on several threads. The rounds are gone through in one thread: each part of
-/// the edges would take as long to begin as all of them, and what a round does is bound.
+/// The same as [`first_cycles`], on several threads. Rounds are gone through in one thread: each part of the edges would
+/// take as long to begin as all of them. So they end before one that has many steps.
 pub(crate) fn first_cycles_parallel(
     rt: &(impl Threads + Sync),
     alloc: Global,
@@ -160,7 +166,7 @@ pub(crate) fn first_cycles_parallel(
 {
     let mut kept = sought.kept_at_first(alloc)?;
     let mut found = Vec::new(alloc);
-    let root = search_in_rounds(alloc, sought, cap, &mut kept, &mut found)?;
+    let root = search_in_rounds(alloc, sought, cap, STEPS_ALONE, &mut kept, &mut found)?;
     if root >= sought.table.len() {
         return Ok(found);
     }

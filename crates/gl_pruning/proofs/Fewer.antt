@@ -2,6 +2,7 @@
 use Rattle.std.proofs.Common.{◌≡◌, ℕ, ◌<◌, Bool, true, false, List, length, get_or, set, Some, refl, sym, ap, ◌∙◌, arith, inl, inr}
 use Rattle.std.specs.Prelude.{slice_get, ◌||◌}
 use Rattle.std.proofs.lemmas.Bool.{cases_eq}
+use Rattle.std.proofs.lemmas.List.{length-set}
 use Rattle.std.proofs.lemmas.Option.{slice_get-get_or, slice_get_within}
 use Rattle.gl_index.proofs.Lists.{element_at, set_here, set_elsewhere}
 use Rattle.gl_pruning.specs.Sought.{KeepsSought, StayLeftOut, GoesOnSeeking}
@@ -22,6 +23,16 @@ stay_out_at kept x within i out =
     elim (cases_eq i x) [
       | inl same ↦ ap (slice_get (set kept x false)) same ∙ set_here kept x false within
       | inr other ↦ set_elsewhere kept x i false other (slice_get_within kept i false out) ∙ out
+    ]
+
+-- a flag that stands was set before
+pub was_set : (kept : List Bool) (x i : ℕ) → x < length kept → slice_get (set kept x false) i ≡ Some true → slice_get kept i ≡ Some true
+was_set kept x i within there =
+    elim (cases_eq i x) [
+      | inl same ↦ absurd (cc (sym (ap (slice_get (set kept x false)) same) ∙ there, set_here kept x false within))
+      | inr other ↦
+          let below = slice_get_within (set kept x false) i true there in
+          sym (set_elsewhere kept x i false other (omega (arith, below, length-set kept x false))) ∙ there
     ]
 
 -- an edge that was kept is left out

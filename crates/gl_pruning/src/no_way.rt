@@ -29,15 +29,15 @@ const ROUNDS: usize = 1_000;
 // How many links of ways and edges beside them are looked at in a pass, by all parts together.
 const BUDGET: usize = 100_000_000;
 
-// The label of a lock.
-fn label(labels: &[usize], number: usize) -> usize
+/// The label of a lock.
+pub(crate) fn label(labels: &[usize], number: usize) -> usize
     ensures { result ≡ label_at labels.now number }
 {
     labels.get(number).copied().unwrap_or(0)
 }
 
-// Whether the label grows by more than one from the one lock to the other.
-fn is_leap(labels: &[usize], ends: Ends) -> bool
+/// Whether the label grows by more than one from the one lock to the other.
+pub(crate) fn is_leap(labels: &[usize], ends: Ends) -> bool
     ensures leap { IsTrue result
         → label_at labels.now ends.held + 1 < label_at labels.now ends.wanted }
     ensures step { ¬ IsTrue result
@@ -162,6 +162,7 @@ impl Sought<'_> {
         let ends = numbers.of_edges(alloc, self.table)?;
         let budget = part.share_of(BUDGET);
         let mut ways = Ways::new(alloc, self, numbers.count(), &ends, kept, budget)?;
+        self.leave_out_far(part, &mut ways, budget, &ends, kept)?;
         for _ in 0..ROUNDS {
             if !self.leave_out_each(part, &mut ways, &ends, kept)? {
                 return Ok(());

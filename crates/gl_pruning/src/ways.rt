@@ -10,6 +10,9 @@ use gl_event::Memory;
 use gl_filters::goes_with;
 use std::alloc::Global;
 
+// How many edges are labelled, and looked at by their labels, for the price of one whose guards are.
+const LOOKS: usize = 4;
+
 // An edge of the lock-order graph, between numbers of locks.
 #[derive(Clone, Copy, Debug, PartialEq, Eq, PartialOrd, Ord)]
 struct Link {
@@ -25,6 +28,8 @@ pub(crate) struct Ways {
     links: Vec<Link>,
     // for each lock where its links begin
     first: Vec<Option<usize>>,
+    // for each lock whether a link leads there
+    is_wanted: Vec<bool>,
     // for each lock how many edges it takes to get there, or as many as a cycle may have
     pub(crate) labels: Vec<usize>,
     // the locks that were reached, in order
@@ -45,9 +50,11 @@ impl Ways {
     ) -> Result<Ways, Memory> {
         let links = links_of(alloc, ends, kept)?;
         let first = first_links(alloc, &links, locks)?;
+        let is_wanted = wanted_by(alloc, &links, locks)?;
         Ok(Ways {
             links,
             first,
+            is_wanted,
             labels: vec![in alloc; sought.len; locks]?,
             reached: Vec::new(alloc),
             budget,
@@ -80,6 +87,52 @@ impl Ways {
             }
         }
         Ok(true)
+    }
+
+    /// Labels all locks by how many edges it takes to get there from this one, whichever edges go with which. No where no edge
+    /// wants this lock, or the budget is spent: a label is then one of before.
+    pub(crate) fn label_from(
+        &mut self,
+        far: usize,
+        lock: usize,
+        budget: &mut usize,
+    ) -> Result<bool, Memory> {
+        if *budget == 0 || self.is_wanted.get(lock) != Some(&true) {
+            return Ok(false);
+        }
+        *budget = budget.saturating_sub(self.links.len() / LOOKS + 1);
+        self.forget(far);
+        self.reach(lock, 0)?;
+        for turn in 0..self.labels.len() {
+            let Some(&lock) = self.reached.get(turn) else {
+                break;
+            };
+            let distance = self.label(lock).saturating_add(1);
+            if distance >= far {
+                break;
+            }
+            self.reach_from(far, lock, distance)?;
+        }
+        Ok(true)
+    }
+
+    // Comes to each lock that is one edge on from this one.
+    fn reach_from(&mut self, far: usize, lock: usize, distance: usize) -> Result<(), Memory> {
+        let Some(first) = self.first.get(lock).copied().flatten() else {
+            return Ok(());
+        };
+        for i in first..self.links.len() {
+            let Some(&link) = self.links.get(i) else {
+                break;
+            };
+            if link.held != lock {
+                break;
+            }
+            if self.label(link.wanted) >= far {
+                self.reach(link.wanted, distance)?;
+            }
+        }
+        Ok(())
     }
 
     /// Takes what it costs to look at so many edges from the budget.
@@ -173,6 +226,17 @@ fn first_links(alloc: Global, links: &[Link], locks: usize) -> Result<Vec<Option
         }
     }
     Ok(first)
+}
+
+// For each lock whether a link leads there.
+fn wanted_by(alloc: Global, links: &[Link], locks: usize) -> Result<Vec<bool>, Memory> {
+    let mut is_wanted = vec![in alloc; false; locks]?;
+    for link in links {
+        if let Some(flag) = is_wanted.get_mut(link.wanted) {
+            *flag = true;
+        }
+    }
+    Ok(is_wanted)
 }
 
 // Whether the link's edge is kept and goes with this one.

@@ -22,6 +22,12 @@ IsNumbered edges ends = (number : ℕ → ℕ) × AreEnds number edges ends
 abbrev pub label_at : List ℕ → ℕ → ℕ
 label_at labels n = unwrap_or (slice_get labels n) 0
 
+-- along each edge that is kept the label of a lock grows by one at the most
+abbrev pub GrowByOne : List Bool → List Ends → List ℕ → Type 0
+GrowByOne kept ends labels =
+    (i : ℕ) (d : Ends) → slice_get kept i ≡ Some true → slice_get ends i ≡ Some d
+    → label_at labels d.wanted ≤ label_at labels d.held + 1
+
 -- a certificate: along each edge that is kept and goes with the one at x the label of a lock grows by one at the most, and from the
 -- lock that this one wants to the one that it holds by too much for the other edges of a cycle
 pub record ShowsNoWay (before : Segment → Segment → Bool) (mode : Mode) (len : ℕ)

@@ -8,7 +8,7 @@ use Rattle.gl_commands.proofs.answer.report_by.Goals as goal
 pub returns : goal.returns
 returns g c =
     let by = report_with c.args.contents c.args.query.now (is_before c.args.order.now) in
-    IfOk-weaker c.report_with_parallel.result (λ report. report ≡ by c.in_ok-edges.edges) (λ report. report ≡ by (edges c.args.trace.now.lists)) (λ report is. is ∙ ap by c.in_ok-edges.ensures) c.report_with_parallel.ensures
+    IfOk-weaker c.report_over.result (λ report. report ≡ by c.in_ok-edges.edges) (λ report. report ≡ by (edges c.args.trace.now.lists)) (λ report is. is ∙ ap by c.in_ok-edges.ensures) c.report_over.ensures
 
 pub returns-in_err-edges : goal.returns-in_err-edges
 returns-in_err-edges g c =

@@ -1,4 +1,4 @@
-use Rattle.std.proofs.Common.{◌≡◌, ℕ, suc, ◌+◌, ◌-◌, ◌<◌, ◌≤◌, List, length, map, get_or, Some, sym, ap, subst, ◌∙◌, arith, rules}
+use Rattle.std.proofs.Common.{◌≡◌, ℕ, suc, ◌+◌, ◌-◌, ◌<◌, ◌≤◌, List, length, map, get_or, Some, refl, sym, ap, subst, ◌∙◌, arith, rules}
 use Rattle.std.specs.Prelude.{All, slice_get, unwrap_or}
 use Rattle.std.proofs.lemmas.List.{length-map, length_push}
 use Rattle.std.proofs.lemmas.List.Elements.{All-push}
@@ -15,7 +15,7 @@ use Rattle.gl_index.proofs.Tables.{within_edges}
 use Rattle.gl_cycles.proofs.EdgesOfPaths.{wanted_after, wanted_last, held_first, wanted_by_table, held_by_table, some_picked}
 use Rattle.gl_cycles.specs.bodies.Searching.{IsReady, all_from}
 use Rattle.gl_cycles.proofs.EdgesOffCycles.{block-off}
-use Rattle.gl_cycles.proofs.PathsGrow.{HasGrownTo, OthersAreStray, LeftOutAreStray, other_lock, other_locks, grow_begin, grow_step, grow_end, grow_short, grow_closed, grown_room, goes_on, grow_stray, joined_path}
+use Rattle.gl_cycles.proofs.PathsGrow.{HasGrownTo, OthersAreStray, LeftOutAreStray, other_lock, other_locks, grow_begin, grow_step, grow_end, grow_short, grow_none, grow_closed, grown_room, goes_on, grow_stray, joined_path}
 use Rattle.gl_cycles.proofs.paths.Searcher.+grow.Goals as goal
 
 -- the path is closed
@@ -37,6 +37,16 @@ grow-returns-then-path-self t c =
     record {
       added = rw none (grow_short (is_before s.order.now) s.mode (edges_of_table s.table.now) c.args.path.now s.cap _
           (omega (arith, c.requires.room, length-map c.args.found.now.items (λ cycle. cycle.items))) (sym c.if-is_closed.ensures));
+      stopped = tt;
+    }
+
+-- the path wants a lock that it holds
+pub grow-returns-then-wants_held : goal.grow-returns-then-wants_held
+grow-returns-then-wants_held t c =
+    let s = c.args.self.now in
+    record {
+      added = grow_none (is_before s.order.now) s.mode (edges_of_table s.table.now) c.args.path.now s.cap _ (s.len - length c.args.path.now)
+          (omega (arith, c.requires.room, length-map c.args.found.now.items (λ cycle. cycle.items))) (sym c.if-is_closed.ensures) (c.if-wants_held.ensures refl);
       stopped = tt;
     }
 

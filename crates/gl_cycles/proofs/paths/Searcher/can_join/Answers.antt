@@ -46,7 +46,7 @@ returns-then-lt c = λ f at.
     let table = c.args.self.now.table.now in
     let is = is_there table c.args.next c.index-self-next.result f c.requires.there at in
     let lesser = ltb-true _ _ (sym (less _ _) ∙ sym c.lt.ensures ∙ c.if-lt.true) in
-    sym (follow_by_table table c.args.path.now c.requires.within (is_before c.args.self.now.order.now) c.args.self.now.mode f c.index-self-first.result c.index-self-last.result c.requires.some
+    sym (follow_by_table table c.args.path.now c.requires.within (is_before c.args.self.now.order.now) c.args.self.now.mode f c.index-self-first.result c.index-self-first.result c.requires.some
     ∙ and_right _ _ (and_right _ _ (ap (λ x. leb (get_or table (get_or c.args.path.now 0 0) c.index-self-first.result).0.thread x.thread) is ∙ lt-leb _ _ lesser)))
 
 -- the rest is whether each edge of the path goes with it
