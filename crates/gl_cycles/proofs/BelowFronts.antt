@@ -1,7 +1,7 @@
 -- What lies below a front, by what the front is.
-use Rattle.std.proofs.Common.{◌≡◌, ◌≢◌, ◌⊎◌, ℕ, suc, Bool, true, false, cond, List, [], ◌∷◌, ◌++◌, length, map, filter, Some, None, refl, sym, ap, ◌∙◌, inl, inr}
+use Rattle.std.proofs.Common.{◌≡◌, ◌≢◌, ℕ, suc, ◌<◌, Bool, true, false, cond, List, [], ◌∷◌, ◌++◌, length, map, filter, Some, None, refl, sym, ap, ◌∙◌, arith, inl, inr}
 use Rattle.std.specs.Prelude.{slice_get}
-use Rattle.std.specs.List.{flat_map, range_with_len, cons_option}
+use Rattle.std.specs.List.{flat_map, range_with_len, cons_option, list_all}
 use Rattle.std.proofs.lemmas.Bool.{and_left, and_right, eq-eqb, cases_eq, not_from_true}
 use Rattle.std.proofs.lemmas.List.{append-nil}
 use Rattle.gl_event.specs.declared.events.Segment.{Segment}
@@ -9,7 +9,7 @@ use Rattle.gl_edges.specs.declared.edge.Edge.{Edge}
 use Rattle.gl_filters.specs.declared.query.Mode.{Mode}
 use Rattle.gl_filters.proofs.Cycling.{leads_not, leads_same}
 use Rattle.gl_filters.specs.Test.{goes_with, leads_to, is_path, is_cycle, can_follow, leads_back, last_of}
-use Rattle.gl_filters.proofs.Paths.{is_path_push, is_path-cut}
+use Rattle.gl_filters.proofs.Paths.{is_path_push, is_path-cut, last_of_push, list_all_push}
 use Rattle.gl_filters.specs.Picked.{picked}
 use Rattle.gl_cycles.specs.AllCycles.{lists_below, all_cycles}
 use Rattle.gl_cycles.specs.bodies.Blocks.{block, blocks_below}
@@ -71,16 +71,18 @@ module _ (before : Segment → Segment → Bool) (mode : Mode) (edges : List Edg
   not_led_on e es f other = and_left _ _ (leads_not (last_of e es) f other)
 
   -- two edges that hold one lock don't go together
-  same_held : (e f : Edge) → e.held ≡ f.held → goes_with before mode e f ≡ false
+  pub same_held : (e f : Edge) → e.held ≡ f.held → goes_with before mode e f ≡ false
   unfolding goes_with
   same_held e f same = and_left _ _ (and_left _ _ (not_from_true _ (eq-eqb _ _ same)))
 
-  -- what the one edge leads on to doesn't go with an edge that holds the lock which the first wants
-  pub led_or_apart : (d e f : Edge) → e.held ≡ d.wanted → (leads_to d f ≡ false) ⊎ (goes_with before mode e f ≡ false)
-  led_or_apart d e f same =
-      elim (cases_eq d.wanted f.held) [
-        | inl is ↦ inr (same_held e f (same ∙ is))
-        | inr other ↦ inl (leads_not d f other)
+  -- nothing follows an edge that leads on only to what doesn't go with all before it
+  pub none_after_astray : (es : List Edge) (f g : Edge) → 0 < length es → (f.wanted ≡ g.held → list_all (λ d. goes_with before mode d g) es ≡ false) → can_follow before mode (es ++ f ∷ []) g ≡ false
+  unfolding can_follow
+  none_after_astray [] f g some apart = absurd (omega arith)
+  none_after_astray (e ∷ es) f g some apart =
+      elim (cases_eq f.wanted g.held) [
+        | inl same ↦ and_right _ _ (and_left _ _ (list_all_push (λ d. goes_with before mode d g) (e ∷ es) f ∙ and_left _ _ (apart same)))
+        | inr other ↦ and_left _ _ (ap (λ d. leads_to d g) (last_of_push e es f) ∙ leads_not f g other)
       ]
 
   -- nothing follows a last edge that leads back to the first

@@ -14,7 +14,7 @@ ghost use Rattle.gl_edges.specs.declared.edge.Edge.{Edge};
 
 use crate::pieces::add_cycles;
 use gl_edges::{Edge, Sample};
-use gl_event::Memory;
+use gl_event::{LockId, Memory};
 use gl_filters::{Mode, Stop, goes_with, leads_on, longer_path, spend_step};
 use gl_index::Followers;
 use gl_pruning::Sought;
@@ -117,22 +117,42 @@ impl Searcher<'_> {
         self.goes_with_all(path, edge)
     }
 
-    // Whether the path's last edge wants a lock that an edge of the path holds. None may follow then, since held locks
-    // differ.
-    fn wants_held(&self, path: &[usize]) -> bool
-        requires some { 0 < length path.now }
+    // Whether an edge of the path holds this lock. Then no other one that holds it goes with all of the path.
+    fn is_held(&self, path: &[usize], lock: LockId) -> bool
         requires within { All (λ i. i < length self.now.table.now) path.now }
-        ensures { result ≡ true → (f : Edge)
-            → can_follow (is_before self.now.order.now) self.now.mode
-            (picked (edges_of_table self.now.table.now) path.now) f ≡ false }
+        ensures { result ≡ true → (g : Edge) → g.held ≡ lock
+            → list_all (λ e. goes_with (is_before self.now.order.now) self.now.mode e g)
+            (picked (edges_of_table self.now.table.now) path.now) ≡ false }
     {
-        let wanted = self.table[path[path.len() - 1]].0.wanted;
         for &i in path {
-            if self.table[i].0.held == wanted {
+            if self.table[i].0.held == lock {
                 return true;
             }
         }
         false
+    }
+
+    // Whether the edge at a position wants a lock that the path holds, but not its first edge. Behind the path, none may
+    // follow it then, and it doesn't lead back.
+    fn leads_astray(&self, path: &[usize], next: usize) -> bool
+        requires some { 0 < length path.now }
+        requires within { All (λ i. i < length self.now.table.now) path.now }
+        requires there { next < length self.now.table.now }
+        ensures none { result ≡ true → (f g : Edge)
+            → slice_get (edges_of_table self.now.table.now) next ≡ Some f
+            → can_follow (is_before self.now.order.now) self.now.mode
+            (picked (edges_of_table self.now.table.now) path.now ++ f ∷ []) g ≡ false }
+        ensures unclosed { result ≡ true → (f : Edge)
+            → slice_get (edges_of_table self.now.table.now) next ≡ Some f
+            → leads_back
+            (picked (edges_of_table self.now.table.now) path.now ++ f ∷ []) ≡ false }
+    {
+        let wanted = self.table[next].0.wanted;
+        let first = path[0];
+        if wanted == self.table[first].0.held {
+            return false;
+        }
+        self.is_held(path, wanted)
     }
 
     // The first cycles, up to the cap, of which those that begin with edges before a root were found.
@@ -313,9 +333,6 @@ impl Searcher<'_> {
         if path.len() == self.len {
             return Ok(());
         }
-        if self.wants_held(path) {
-            return Ok(());
-        }
         if path.len() + 1 == self.len {
             return self.close(alloc, path, steps, found);
         }
@@ -382,6 +399,9 @@ impl Searcher<'_> {
             (cycles_in found.old.items) (cycles_in found.new.items) result }
     {
         spend_step(self.is_bound, steps)?;
+        if self.leads_astray(path, next) {
+            return Ok(());
+        }
         if !self.can_join(path, next) {
             return Ok(());
         }

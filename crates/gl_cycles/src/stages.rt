@@ -30,11 +30,11 @@ use std::alloc::Global;
 use std::thread::Threads;
 
 // The number of the last round, from 0.
-const LAST: usize = 2;
+const LAST: usize = 1;
 
 // How many steps a round has at most where there are several threads: one of them takes so many in no more time than it
 // takes to leave out edges with all the effort, and what needs more is dealt out.
-const STEPS_ALONE: usize = 3_000_000;
+const STEPS_ALONE: usize = 8_000_000;
 
 // How many steps a search has at first for each edge, and how many at least.
 const STEPS_OF_EDGE: usize = 64;
@@ -42,7 +42,7 @@ const STEPS_OF_EDGE: usize = 64;
 const STEPS: usize = 10_000;
 
 // How many times the steps of the round before each round has.
-const GROWTH: usize = 4;
+const GROWTH: usize = 8;
 
 // How many steps are worth the effort for each reason of one: there are several reasons, and each takes
 // as much effort twice.

@@ -1,4 +1,4 @@
-use Rattle.std.proofs.Common.{◌≡◌, ℕ, suc, ◌+◌, ◌-◌, ◌<◌, ◌≤◌, List, length, map, get_or, Some, refl, sym, ap, subst, ◌∙◌, arith, rules}
+use Rattle.std.proofs.Common.{◌≡◌, ℕ, suc, ◌+◌, ◌-◌, ◌<◌, ◌≤◌, List, length, map, get_or, Some, sym, ap, subst, ◌∙◌, arith, rules}
 use Rattle.std.specs.Prelude.{All, slice_get, unwrap_or}
 use Rattle.std.proofs.lemmas.List.{length-map, length_push}
 use Rattle.std.proofs.lemmas.List.Elements.{All-push}
@@ -8,6 +8,8 @@ use Rattle.gl_cycles.specs.declared.paths.Searcher.{Searcher}
 use Rattle.gl_segments.specs.Clocks.{is_before}
 use Rattle.gl_edges.specs.declared.edge.Edge.{Edge}
 use Rattle.gl_filters.specs.Picked.{edges_of_table, picked}
+use Rattle.gl_filters.specs.Test.{can_follow, leads_back}
+use Rattle.gl_cycles.proofs.BelowFronts.{picked-push}
 use Rattle.gl_index.specs.Listed.{IsNextWith}
 use Rattle.gl_index.specs.Indexes.{held_lock, both_locks}
 use Rattle.gl_index.proofs.Lists.{element_at}
@@ -37,16 +39,6 @@ grow-returns-then-path-self t c =
     record {
       added = rw none (grow_short (is_before s.order.now) s.mode (edges_of_table s.table.now) c.args.path.now s.cap _
           (omega (arith, c.requires.room, length-map c.args.found.now.items (λ cycle. cycle.items))) (sym c.if-is_closed.ensures));
-      stopped = tt;
-    }
-
--- the path wants a lock that it holds
-pub grow-returns-then-wants_held : goal.grow-returns-then-wants_held
-grow-returns-then-wants_held t c =
-    let s = c.args.self.now in
-    record {
-      added = grow_none (is_before s.order.now) s.mode (edges_of_table s.table.now) c.args.path.now s.cap _ (s.len - length c.args.path.now)
-          (omega (arith, c.requires.room, length-map c.args.found.now.items (λ cycle. cycle.items))) (sym c.if-is_closed.ensures) (c.if-wants_held.ensures refl);
       stopped = tt;
     }
 
@@ -167,6 +159,20 @@ grow-returns t c =
     record {
       added = subst (λ n. map (λ cycle. cycle.items) c.loop-next.found.items ≡ take s.cap (map (λ cycle. cycle.items) c.args.found.now.items ++ block (is_before s.order.now) s.mode (edges_of_table s.table.now) n c.args.path.now)) left
           (grow_end (is_before s.order.now) s.mode (edges_of_table s.table.now) (s.len - length c.args.path.now - 1) c.args.path.now s.cap held_lock _ _ _ had (sym c.if-is_closed.ensures));
+      stopped = tt;
+    }
+
+-- the edge leads nowhere
+pub grow_by-returns-then-leads_astray : goal.grow_by-returns-then-leads_astray
+grow_by-returns-then-leads_astray t c =
+    let s = c.args.self.now in
+    let here = element_at (edges_of_table s.table.now) c.args.next (omega (arith, c.requires.there, length-map s.table.now (λ pair. pair.0))) in
+    let longer = picked-push (edges_of_table s.table.now) c.args.path.now c.args.next here.0 here.1 in
+    record {
+      added = grow_none (is_before s.order.now) s.mode (edges_of_table s.table.now) (c.args.path.now ++ c.args.next ∷ []) s.cap _ (s.len - length (c.args.path.now ++ c.args.next ∷ []))
+          (omega (arith, c.requires.room, length-map c.args.found.now.items (λ cycle. cycle.items)))
+          (ap leads_back longer ∙ c.leads_astray.ensures.unclosed c.if-leads_astray.true here.0 here.1)
+          (λ g. ap (λ es. can_follow (is_before s.order.now) s.mode es g) longer ∙ c.leads_astray.ensures.none c.if-leads_astray.true here.0 g here.1);
       stopped = tt;
     }
 
