@@ -9,7 +9,7 @@
 # RUNS     runs of each; the best counts (3)
 set -eu
 
-here=$(cd "$(dirname "$0")" && pwd)
+here=$(cd "$(dirname "$(readlink -f -- "$0")")" && pwd)
 program=${1:-$(GOODLOCK_WHICH=1 "$here/../goodlock")}
 folder=$(mktemp -d)
 trap 'rm -rf "$folder"' EXIT

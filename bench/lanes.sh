@@ -12,7 +12,7 @@
 # the rest is proved first. It needs rt on PATH.
 set -eu
 
-top=$(cd "$(dirname "$0")/.." && pwd)
+top=$(cd "$(dirname "$(readlink -f -- "$0")")/.." && pwd)
 copy=${BENCH_DIR:-/tmp/goodlock-bench}/lanes
 rm -rf "$copy"
 mkdir -p "$copy/crates"

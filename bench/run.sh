@@ -13,7 +13,7 @@
 # RUNS        runs of each program; the best counts         (3)
 set -u
 
-here=$(cd "$(dirname "$0")" && pwd)
+here=$(cd "$(dirname "$(readlink -f -- "$0")")" && pwd)
 top=$(dirname "$here")
 folder=${BENCH_DIR:-/tmp/goodlock-bench}
 events=${EVENTS:-1000000}

@@ -15,7 +15,7 @@
 # answer isn't predict's.
 set -u
 
-top=$(cd "$(dirname "$0")/.." && pwd)
+top=$(cd "$(dirname "$(readlink -f -- "$0")")/.." && pwd)
 program=${1:-$(GOODLOCK_WHICH=1 "$top/goodlock")}
 events=${EVENTS:-10000000}
 work=$(mktemp -d)

@@ -3,7 +3,7 @@
 //! It reads an STD trace from standard input and prints the predicted deadlocks. Output, standard error
 //! and exit status are those of goodlock, so that the two can be timed on the same files.
 //!
-//!     rustc -O main.rs && ./main --mode full --len 4 --max 1000 < trace.std
+//!     rustc --edition 2021 -O main.rs && ./main --mode full --len 4 --max 1000 < trace.std
 //!
 //! How it works: the text is read into each thread's list of events, with numbers for names. Then the
 //! lists give the order of segments and a map of edges, and a depth-first search finds the cycles.

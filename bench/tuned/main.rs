@@ -3,7 +3,7 @@
 //! It reads an STD trace from standard input and prints the predicted deadlocks. Output, standard error
 //! and exit status are those of goodlock, so that the two can be timed on the same files.
 //!
-//!     rustc -O main.rs && ./main --mode full --len 4 --max 1000 < trace.std
+//!     rustc --edition 2021 -O main.rs && ./main --mode full --len 4 --max 1000 < trace.std
 //!
 //! How it works: lines are judged and edges are made in one pass over the text. Names borrow from the
 //! text. What a thread holds is a node of a tree (one child for each lock, mode and segment that was

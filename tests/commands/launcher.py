@@ -168,14 +168,14 @@ class Clone:
         of = subprocess.run([self.top / "tools/gate/sources"], stdout=subprocess.PIPE, text=True, check=True).stdout
         self.write("prebuilt/built-from", f"sources {of}toolchain kit 7\n")
 
-    def run(self, *words, text="", with_rt=True, unproved="", built=0, **settings):
+    def run(self, *words, text="", with_rt=True, unproved="", built=0, called="./goodlock", folder=None, **settings):
         self.calls.write_text("")
         folders = [str(self.tools)] * with_rt + [os.path.dirname(sys.executable), "/usr/bin", "/bin"]
         if not with_rt:
             folders = self.without_rt(folders)
         own = {"CLONE": str(self.top), "UNPROVED": unproved, "BUILT": str(built), "MADE": str(self.tools / "made")}
         done = subprocess.run(
-            ["./goodlock", *words], cwd=self.top, input=text, capture_output=True, text=True, timeout=60,
+            [called, *words], cwd=folder or self.top, input=text, capture_output=True, text=True, timeout=60,
             env={"PATH": ":".join(folders), "CALLS": str(self.calls), **own, **settings},
         )  # fmt: skip
         return done.stdout, done.stderr, done.returncode, self.calls.read_text().splitlines()
@@ -212,6 +212,16 @@ def carried_program(clone):
     equal(out, "<--version>")
     has(err, f"goodlock: this is {clone.top}/prebuilt/goodlock", "said by the carried one")
     equal(clone.run("predict", GOODLOCK_WHICH="1"), (f"{clone.top}/prebuilt/goodlock\n", "", 0, []))
+
+
+def called_otherwise(clone):
+    """By a link from another folder, and where the shell looks for folders elsewhere too."""
+    link = clone.tools / "linked"
+    link.symlink_to(clone.top / "goodlock")
+    equal(clone.run(*WORDS, text="text", with_rt=False, called=str(link)), CARRIED)
+    inside = clone.top.parent
+    name = f"{clone.top.name}/goodlock"
+    equal(clone.run(*WORDS, text="text", with_rt=False, called=name, folder=inside, CDPATH=str(inside)), CARRIED)
 
 
 def built_where_asked(clone):
@@ -337,6 +347,7 @@ def unbuilt(clone):
 
 TESTS = (
     carried_program,
+    called_otherwise,
     built_where_asked,
     processes_at_once,
     progress_is_told,
