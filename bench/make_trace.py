@@ -81,6 +81,13 @@ DENSE = {
     # Each time all locks, in any order: all cycles of the first ones begin at one edge.
     "all-locks": dict(threads=6, locks=16, sections=60),
 }
+# Sparse graphs, in which each edge leads on to thousands and hardly any path comes back.
+SPARSE = {
+    # A lock and the one above it in a tree, in both orders, by many threads: all cycles have two edges.
+    "tree": dict(threads=1_000, locks=40, depth=39, segments=5),
+    # From a lock of one layer to any of the next one, round, mostly under a gate lock: rings as long as there are layers.
+    "layers": dict(threads=200, locks=30, depth=6, sections=12_000, gates=4),
+}
 # Many threads run one of two pieces of code, on all locks: millions of cycles of one mistake.
 FINDINGS = {"shared-code": dict(threads=1_000, locks=50)}
 NAMES = {"colliding-names": dict(locks=100_000), "ordinary-names": dict(locks=100_000)}
@@ -287,6 +294,25 @@ def all_locks(options):
         yield from nested(f"T{draw.randrange(options.threads)}", f"Piece{section % 60}.java", locks)
 
 
+def tree(options):
+    """The locks below one are as many as --depth says, so that it is a star where that is one less than there are locks."""
+    for t in range(options.threads):
+        for turn in range(options.segments):
+            number = 1 + (t * options.segments + turn) % (options.locks - 1)
+            pair = [f"lock{(number - 1) // options.depth}", f"lock{number}"]
+            yield from nested(f"T{t}", "Above.java", pair)
+            yield from nested(f"T{t}", "Below.java", pair[::-1])
+
+
+def layers(options):
+    draw = random.Random(options.seed)
+    for section in range(options.sections):
+        layer = draw.randrange(options.depth)
+        gates = [f"gate{draw.randrange(options.gates)}"] if draw.random() < 0.7 else []
+        locks = [f"lock{at % options.depth}_{draw.randrange(options.locks)}" for at in (layer, layer + 1)]
+        yield from nested(f"T{draw.randrange(options.threads)}", f"Piece{section % 60}.java", [*gates, *locks])
+
+
 class Server:
     """The threads of a server: a piece is lines of one thread that no other thread comes between, and leaves held at
     most what no other thread takes. Its places are those of the code that it runs."""
@@ -480,6 +506,8 @@ MADE_BY = {
     "all-pairs": all_pairs,
     "two-orders": two_orders,
     "all-locks": all_locks,
+    "tree": tree,
+    "layers": layers,
     "item-locks": lambda options: Server(options).cache(),
     "long-sections": lambda options: Server(options).cache(),
     "connections": lambda options: Server(options).connections(),
@@ -497,7 +525,7 @@ def main():
     parser.add_argument("--seed", type=int, default=1)
     parser.add_argument("--threads", type=int, help="at most 1,024")
     parser.add_argument("--locks", type=int)
-    parser.add_argument("--depth", type=int, help="most locks of a block, at most 64")
+    parser.add_argument("--depth", type=int, help="most locks of a block, at most 64; layers, or locks below one of a tree")
     parser.add_argument("--sections", type=int, help="pieces of code, each with its locks")
     parser.add_argument("--disorder", type=float, help="share of the pieces that take locks in any order")
     parser.add_argument("--shared", type=float, help="share of the locks of each piece that are taken in shared mode")
@@ -522,7 +550,7 @@ def main():
     options = parser.parse_args()
     for name, value in {
         **GENERAL,
-        **{**SHAPES, **KNOTS, **SERVERS, **PAIRS, **DENSE, **FINDINGS, **NAMES}[options.shape],
+        **{**SHAPES, **KNOTS, **SERVERS, **PAIRS, **DENSE, **SPARSE, **FINDINGS, **NAMES}[options.shape],
     }.items():
         if getattr(options, name, None) is None:
             grows = name == "locks" and options.shape in SERVERS
@@ -540,6 +568,8 @@ def main():
         parser.error("--depth is at most --locks in a ring")
     if options.shape in DENSE and not 2 <= options.locks <= 64:
         parser.error("a dense graph has 2 to 64 --locks, as a thread may hold so many")
+    if options.shape == "tree" and options.locks < 2 or options.shape == "layers" and options.depth < 2:
+        parser.error("a tree has --locks from 2 on, and layers have --depth from 2 on")
     if options.shape in KNOTS and (options.sections < 3 or options.gates >= options.sections):
         parser.error("a knot has three --sections or more, and fewer --gates")
     if options.shape in MADE_BY:
