@@ -130,8 +130,8 @@ class Settings:
 
 def read_number(word, text, least, most):
     try:
-        number = int(text) if text.isdigit() else -1
-    except ValueError:  # of digits that aren't those of a number, or of very many
+        number = int(text) if text.isascii() and text.isdigit() else -1
+    except ValueError:  # of very many digits
         number = -1
     if not least <= number <= most:
         raise Failed("%s takes a number from %d to %d" % (word, least, most))
@@ -145,12 +145,11 @@ def read_mode(text):
 
 
 def read_seconds(text):
-    try:
-        seconds = float(text)
-    except ValueError:
-        seconds = 0
+    """A number in digits, perhaps with a point: no more than that of what Python takes for one."""
+    digits = text.replace(".", "", 1)
+    seconds = float(text) if digits.isascii() and digits.isdigit() else 0
     if not SECONDS_LEAST <= seconds <= SECONDS_MOST:
-        raise Failed("--every takes a number of seconds, from %g to %d" % (SECONDS_LEAST, SECONDS_MOST))
+        raise Failed("--every takes a number of seconds, as 2 or 0.5, from %g to %d" % (SECONDS_LEAST, SECONDS_MOST))
     return seconds
 
 
@@ -363,6 +362,15 @@ def recording_at(path):
     return recording
 
 
+def left_behind(path):
+    """The recording that was left in a directory, and the processes that still write it."""
+    try:
+        recording = recording_at(path)
+        return recording, recording.writers()
+    except OSError as error:
+        raise Failed("%s: nothing was changed" % error)
+
+
 def convert_all(recording, settings, first, running, ended_by):
     """Writes the traces or reports; whether there is an event in any, and whether any process began its files. `running`: the
     processes that still write, as was seen before anything is read. `ended_by`: the signal that ended the first process.
@@ -414,8 +422,8 @@ def run(settings):
         if os.path.lexists(path):
             raise Failed("%s exists already; nothing was run" % path)
     if settings.convert is not None:
-        recording, first, status = recording_at(settings.convert), None, 0
-        running = recording.writers()
+        recording, running = left_behind(settings.convert)
+        first, status = None, 0
     else:
         recording, first, status, running = record(settings)
     ended_by = os.WTERMSIG(status) if os.WIFSIGNALED(status) else 0
