@@ -19,10 +19,11 @@ CHUNK_UNIT = 4096
 CHUNK_HEAD = 32
 CHUNK_EVENTS, CHUNK_TABLE = 0x676C6576, 0x676C7462
 RECORD_PROCESS, RECORD_MODULE, RECORD_SITE, RECORD_LOCK, RECORD_THREAD = 1, 2, 3, 4, 5
-RECORD_START, RECORD_UNLOADED, RECORD_LOSSES = 6, 7, 8
+RECORD_START, RECORD_UNLOADED, RECORD_LOSSES, RECORD_END = 6, 7, 8, 11
 RECORD_PLACE, RECORD_LOCK_KIND, RECORD_LOCK_NAME, RECORD_ROUTINE, RECORD_NOTE, RECORD_NO_LOCK = 16, 17, 18, 19, 20, 21
 LOCK_CLASSES = {1: "mutex", 2: "rwlock", 3: "spin", 4: "once", 5: "static"}
 LOCK_MADE = 1
+END_UNKNOWN, END_EXIT, END_EXEC = 0, 1, 2
 FOREIGN = 0xFFFFFFFF
 
 SITE_SHIFT, SITE_MASK = 5, (1 << 27) - 1
@@ -154,6 +155,7 @@ class Process:
         self.locks = {}
         self.threads = {}
         self.lost = Counter()
+        self.end = END_UNKNOWN
         self.places = {}  # number: lines `path:line`, of a recorder that knows names
         self.notes = []
         self.no_locks = []
@@ -205,6 +207,8 @@ class Process:
             self.threads[values[0]] = Thread(values.tolist(), self.modules.when)
         elif kind == RECORD_LOSSES:
             self.lost = Counter(dict(zip(("events", "locks", "places", "threads"), values.tolist())))
+        elif kind == RECORD_END:
+            self.end = values[0]
         elif kind == RECORD_NO_LOCK:
             self.no_locks.append(values[0])
         elif RECORD_PLACE <= kind <= RECORD_NOTE:

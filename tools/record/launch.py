@@ -283,7 +283,8 @@ def started_program(settings, environment, mask):
 
 
 def record(settings):
-    """Runs the program; the recording, the program's number and wait status, and which processes still run."""
+    """Runs the program; the recording, the program's number and wait status, which processes still run, and how those ended of
+    which that is known."""
     from family import WAITED, Family, adopt_orphans
     from recording import new_recording
 
@@ -316,7 +317,7 @@ def record(settings):
         if family.companion:
             family.companion.end()
         recorder.clean_up()
-    return recording, process, status, running
+    return recording, process, status, running, {**family.signalled, process: status}
 
 
 def follow(settings, recording, process, family):
@@ -371,9 +372,9 @@ def left_behind(path):
         raise Failed("%s: nothing was changed" % error)
 
 
-def convert_all(recording, settings, first, running, ended_by):
+def convert_all(recording, settings, first, running, ends):
     """Writes the traces or reports; whether there is an event in any, and whether any process began its files. `running`: the
-    processes that still write, as was seen before anything is read. `ended_by`: the signal that ended the first process.
+    processes that still write, as was seen before anything is read. `ends`: the wait statuses that are known, by process.
     """
     from build import BuildError
     from convert import ConvertError, convert_recording, summary_lines
@@ -383,7 +384,7 @@ def convert_all(recording, settings, first, running, ended_by):
             from live import report_recording
 
             summaries, faults = report_recording(
-                recording, settings.trace, first, running, ended_by, question_of(settings), settings.functions
+                recording, settings.trace, first, running, ends, question_of(settings), settings.functions
             )
         else:
             summaries, faults = convert_recording(recording, settings.trace, first, settings.functions)
@@ -423,12 +424,11 @@ def run(settings):
             raise Failed("%s exists already; nothing was run" % path)
     if settings.convert is not None:
         recording, running = left_behind(settings.convert)
-        first, status = None, 0
+        first, status, ends = None, 0, {}
     else:
-        recording, first, status, running = record(settings)
-    ended_by = os.WTERMSIG(status) if os.WIFSIGNALED(status) else 0
+        recording, first, status, running, ends = record(settings)
     status = exit_status(status)
-    found, loaded = convert_all(recording, settings, first, running, ended_by)
+    found, loaded = convert_all(recording, settings, first, running, ends)
     if not found:
         what = "report" if settings.live else "trace"
         say("no events, no %s: %s (the program's own status was %d)" % (what, recorder.reason(loaded), status))

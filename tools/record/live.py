@@ -14,6 +14,8 @@ from collections import namedtuple
 from build import BuildError
 from convert import (
     CHUNK_HEAD,
+    END_EXEC,
+    END_UNKNOWN,
     OBJECT_SHIFT,
     SITE_MASK,
     SITE_SHIFT,
@@ -470,12 +472,16 @@ class LiveSummary(Summary):
         self.report = None
         self.open = None  # why the report isn't settled
 
-    def settle(self, running, ended_by):
-        """Says what stands against the report being that of all that the process does."""
+    def settle(self, running, how):
+        """Says what stands against the report being that of all that the process does. `how`: its wait status, or None where that
+        isn't known."""
+        end = self.process.end
         if is_among(self.process.key, running):
             self.open = "the process still runs"
-        elif ended_by:
-            self.open = "signal %d ended the process" % ended_by
+        elif how is not None and os.WIFSIGNALED(how) and end != END_EXEC:
+            self.open = "signal %d ended the process" % os.WTERMSIG(how)
+        elif how is None and end == END_UNKNOWN:
+            self.open = "it isn't known how the process ended"
         elif self.lost["events"]:
             self.open = "events were lost"
         elif any(has_ended for _, _, _, has_ended, *_ in self.copy.round):
@@ -509,8 +515,9 @@ class LiveSummary(Summary):
         )
 
 
-def report_recording(recording, path, first, running, ended_by, question, with_functions):
-    """Writes the report of each process; what is said of each, the first process's first, and what was damaged."""
+def report_recording(recording, path, first, running, ends, question, with_functions):
+    """Writes the report of each process; what is said of each, the first process's first, and what was damaged. `ends`: the wait
+    statuses that are known, by process."""
     copied = last_copy(recording, running)
     processes, faults = named_processes(recording, copied, {}, with_functions)
     if first is None and processes:
@@ -520,10 +527,11 @@ def report_recording(recording, path, first, running, ended_by, question, with_f
         if os.path.lexists(taken):
             raise ConvertError("%s exists already" % taken)
     order = sorted(processes, key=lambda key: (key[0] != first, key))
-    last_image = max((key for key in processes if key[0] == first), default=None)
+    last_images = dict(sorted(processes))
     summaries = [LiveSummary(processes[key], paths[key], copied[key]) for key in order]
     for summary in summaries:
-        summary.settle(running, ended_by if summary.process.key == last_image else 0)
+        pid, image = summary.process.key
+        summary.settle(running, ends.get(pid) if image == last_images[pid] else None)
         if summary.events:
             is_json = path.endswith(".json")
             summary.report = report_of(recording, summary.process, question, not summary.open, is_json, False)

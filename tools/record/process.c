@@ -346,6 +346,8 @@ static int process_describe(const struct process *parent)
     record_done(start);
     process.losses = record_new(RECORD_LOSSES, sizeof *process.losses);
     record_done(process.losses);
+    process.end = record_new(RECORD_END, sizeof *process.end);
+    record_done(process.end);
     return 1;
 }
 
@@ -510,6 +512,7 @@ int process_ready(void)
         in_slow_part = 1;
         process_start(NULL);
         fork_handlers_set();
+        endings_start();
         in_slow_part = 0;
         errno = error;
     }

@@ -13,6 +13,9 @@
 /* Whether this process is recorded; begins its files if it has none yet. */
 int process_ready(void);
 
+/* Sees to it that the end of this process is marked in its file. */
+void endings_start(void);
+
 /* Before this process becomes that user. */
 void user_directory(uid_t user);
 

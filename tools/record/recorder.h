@@ -90,6 +90,7 @@ struct process {
     unsigned frames;
     struct process_record *record;
     struct losses_record *losses;
+    struct end_record *end;
     char directory[3000];
 } __attribute__((aligned(4096))); /* on pages of its own, which the kernel empties in a forked child */
 

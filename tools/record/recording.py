@@ -162,7 +162,8 @@ def rmdir_if_empty(path):
 
 def is_extent(path, owners):
     """Whether this is a regular file of one of these users that begins as a recorded process's. A pipe or a link in its
-    place isn't waited for or followed. One of theirs that can't be opened is an error, as its events would be missing."""
+    place isn't waited for or followed. One of theirs that can't be opened is an error, as its events would be missing.
+    """
     try:
         descriptor = os.open(path, os.O_RDONLY | os.O_NOFOLLOW | os.O_NONBLOCK | os.O_CLOEXEC)
     except OSError as error:

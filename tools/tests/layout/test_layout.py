@@ -46,7 +46,8 @@ PYTHON = {
     / "convert.py": {
         **COMMON,
         **SHIFTS,
-        **records("PROCESS", "MODULE", "SITE", "LOCK", "THREAD", "START", "UNLOADED", "LOSSES", *NAMED),
+        **records("PROCESS", "MODULE", "SITE", "LOCK", "THREAD", "START", "UNLOADED", "LOSSES", "END", *NAMED),
+        **same("END_UNKNOWN", "END_EXIT", "END_EXEC"),
         **events("UPGRADE", "BEYOND", "AGAIN"),
         **same("LOCK_MADE", "HELD_LIMIT"),
         "SITE_MASK": "SITE_LIMIT - 1",

@@ -32,7 +32,7 @@ def test_killed_recorder():
     end(live.program)
     said = report_later(directory, "later.json")
     assert cycles_in(read_report("later.json")) == ORDERS, said
-    assert "so far, as the process still runs" not in said and "; settled" in said, said
+    assert "; so far, as it isn't known how the process ended\n" in said and "; settled" not in said, said
     assert not os.path.exists(directory), "the directory is still there"
 
 
@@ -120,7 +120,25 @@ def test_wrong_questions(words, said):
 
 @pytest.mark.parametrize(
     "seconds",
-    ["0", "0.09", "1000001", "x", "", ".", "1.2.3", "-1", "+1", " 1", "1_0", "1e3", "inf", "nan", "0x1", "1,5", "\u0663"],
+    [
+        "0",
+        "0.09",
+        "1000001",
+        "x",
+        "",
+        ".",
+        "1.2.3",
+        "-1",
+        "+1",
+        " 1",
+        "1_0",
+        "1e3",
+        "inf",
+        "nan",
+        "0x1",
+        "1,5",
+        "\u0663",
+    ],
 )
 def test_every_so_many_seconds(seconds):
     """A plain decimal number: not all that Python takes for one."""

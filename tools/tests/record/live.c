@@ -6,6 +6,8 @@
 #include <stdio.h>
 #include <stdlib.h>
 #include <string.h>
+#include <sys/syscall.h>
+#include <sys/wait.h>
 #include <unistd.h>
 
 #include "turns.h"
@@ -322,6 +324,48 @@ static void killed(void)
     raise(SIGKILL);
 }
 
+/* The ways in which a process ends, in the order of test_live_ends.py. */
+enum {
+    RETURNS, EXITS, EXITS_AT_ONCE, EXITS_BY_C, EXITS_QUICKLY, LAST_THREAD_ENDS, EXECUTES, EXECUTES_BY_WORDS, BECOMES_A_DAEMON,
+    EXITS_BY_NUMBER, IS_KILLED, ABORTS, FAILS_TO_EXECUTE, LENDS_ITS_MEMORY
+};
+
+static void end_somehow(void)
+{
+    char *const arguments[] = {"true", NULL};
+    switch (number) {
+    case EXITS: exit(3);
+    case EXITS_AT_ONCE: _exit(3);
+    case EXITS_BY_C: _Exit(3);
+    case EXITS_QUICKLY: quick_exit(3);
+    case LAST_THREAD_ENDS: pthread_exit(NULL);
+    case EXECUTES: execv("/bin/true", arguments); break;
+    case EXECUTES_BY_WORDS: execle("/bin/sh", "sh", "-c", "test $0$way = 12 || kill -9 $$", "1", NULL, (char *[]){"way=2", NULL}); break;
+    case BECOMES_A_DAEMON: if (daemon(1, 1)) raise(SIGKILL); both(&gate, &b); break;
+    case EXITS_BY_NUMBER: syscall(SYS_exit_group, 3); break;
+    case IS_KILLED: raise(SIGKILL); break;
+    case ABORTS: abort();
+    case FAILS_TO_EXECUTE: execv("/nowhere", arguments); raise(SIGKILL); break;
+    case LENDS_ITS_MEMORY: if (vfork() == 0) _exit(3); raise(SIGKILL); break;
+    }
+}
+
+static void ends(void)
+{
+    in_turn(one_way, other_way);
+    end_somehow();
+}
+
+/* A child of it ends so, and it waits for that. */
+static void child_ends(void)
+{
+    both(&a, &b);
+    if (fork() == 0)
+        ends();
+    else
+        wait(NULL);
+}
+
 /* Random events. Against the order of the locks one is only tried, so that no run hangs. */
 static void *random_thread(void *seed)
 {
@@ -374,7 +418,7 @@ int main(int count, char **arguments)
     } programs[] = {
         {"waits", waits}, {"goes_on", goes_on}, {"comes_later", comes_later}, {"gates", gates}, {"churn", churn},
         {"own_signal", own_signal}, {"forks", forks}, {"repeats", repeats}, {"killed", killed}, {"races", races},
-        {"hangs", hangs}, {"holder_ended", holder_ended}, {"owner_died", owner_died}, {"ring", ring}, {"churn_and_gates", churn_and_gates},
+        {"hangs", hangs}, {"holder_ended", holder_ended}, {"owner_died", owner_died}, {"ring", ring}, {"ends", ends}, {"child_ends", child_ends}, {"churn_and_gates", churn_and_gates},
     };
     number = count > 2 ? atoi(arguments[2]) : 0;
     for (size_t i = 0; count > 1 && i < sizeof programs / sizeof programs[0]; i++)
