@@ -510,6 +510,7 @@ int process_ready(void)
         if (!real_find())
             return 0;
         in_slow_part = 1;
+        unwinder_start();
         process_start(NULL);
         fork_handlers_set();
         endings_start();

@@ -41,6 +41,9 @@ void modules_check(void);
 void memory_end(uintptr_t start, uintptr_t end);
 void memory_end_inside(uintptr_t start, uintptr_t end);
 
+/* Makes the recorder's unwinder ready. Called between slow_enter and slow_leave. */
+void unwinder_start(void);
+
 /* Whether the address lies in the compiler's own library. Called between slow_enter and slow_leave. */
 int in_compiler_module(uint64_t address);
 

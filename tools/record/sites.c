@@ -372,6 +372,20 @@ static void walk_from(struct walk *walk, uintptr_t return_address)
     _Unwind_Backtrace(walk_step, walk);
 }
 
+static _Unwind_Reason_Code walk_stop(struct _Unwind_Context *context, void *unused)
+{
+    (void)context, (void)unused;
+    return _URC_END_OF_STACK;
+}
+
+/* The recorder has an unwinder of its own, which is ready after its first walk. Were it not, a thread that is
+ * cancelled, or an exception, could not go past a wrapper that has something to do then: the program would be aborted.
+ */
+void unwinder_start(void)
+{
+    _Unwind_Backtrace(walk_stop, NULL);
+}
+
 /* --- Sites ------------------------------------------------------------------------------------------------ */
 
 static uint32_t site_new(struct slot *slot, const uintptr_t *callers, size_t count)
