@@ -30,7 +30,7 @@ SITE_SHIFT, SITE_MASK = 5, (1 << 27) - 1
 OBJECT_SHIFT = 32
 KINDS = 32
 NO_KINDS = (0,) * KINDS
-UPGRADE, BEYOND, AGAIN = 9, 10, 11
+JOIN, UPGRADE, BEYOND, AGAIN = 8, 9, 10, 11
 NO_THREAD = 0xFFFFFFFFFFFFFFFF
 THREAD_LIMIT = 1024  # goodlock reads no more threads
 EXAMPLES = 256  # how many threads at most are in all windows for what they do
@@ -88,7 +88,7 @@ class Thread:
         (self.number, self.parent, self.child, self.routine, self.unmade) = values[:5]
         self.children = values[6]
         (self.left_out, self.lost, self.others) = values[8:11]
-        self.object = values[11:] if any(values[11:]) else ()
+        self.object = values[11:19] if any(values[11:19]) else ()
         self.when = when
         self.chunks = []  # (order, path, offset of the words, how many)
         self.kinds = NO_KINDS

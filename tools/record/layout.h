@@ -190,6 +190,7 @@ struct thread_record {
     uint64_t lost;                 /* events for which there was no room */
     uint64_t others;               /* calls that make no event */
     uint64_t object[OBJECT_WORDS]; /* the front of the C++ object that the thread runs; zeros if there is none */
+    uint64_t joins; /* the word of the join in which it waits, without a limit; 0: it is in none. May be missing */
 };
 
 #endif

@@ -16,6 +16,8 @@ from convert import (
     CHUNK_HEAD,
     END_EXEC,
     END_UNKNOWN,
+    JOIN,
+    KINDS,
     OBJECT_SHIFT,
     SITE_MASK,
     SITE_SHIFT,
@@ -64,8 +66,8 @@ END_LIMIT = 5
 
 # --- The copy of the events ------------------------------------------------------------------------------
 
-# Of each thread that waits: its number, the word of its acquire, who has the lock, whether that one has ended, and two numbers that
-# tell how far it is.
+# Of each thread that waits: its number, the word of its acquire or join, who has the lock or is joined, whether that one has ended,
+# and two numbers that tell how far it is.
 WAIT_WORDS = 6
 
 
@@ -259,10 +261,14 @@ def round_text(process, found):
     """Who waits for whom."""
     parts = []
     for thread, word, holder, has_ended, *_ in found:
-        lock = process.names.locks.get(word >> OBJECT_SHIFT, "?")
+        name = process.names.thread_name(thread)
         place = process.names.places.text(word >> SITE_SHIFT & SITE_MASK)
         who = "itself" if thread == holder else process.names.thread_name(holder)
-        text = "%s waits for %s at %s, which %s holds" % (process.names.thread_name(thread), lock, place, who)
+        if word % KINDS == JOIN:
+            parts.append("%s waits for the end of %s at %s" % (name, who, place))
+            continue
+        lock = process.names.locks.get(word >> OBJECT_SHIFT, "?")
+        text = "%s waits for %s at %s, which %s holds" % (name, lock, place, who)
         parts.append(text + (", though it has ended" if has_ended else ""))
     return "; ".join(parts)
 

@@ -10,8 +10,9 @@
  *
  * It answers, for each process: the number of chunks of tables, each: order, extent, offset of the chunk; the number of
  * chunks of events, each: thread, offset in the copy, number of words; a hash of the events that stay, which changes
- * with each that is news; the number of threads that wait for each other, each: thread, the word of the acquire that
- * waits, the thread that has the lock, whether that one has ended, and two numbers that tell how far the thread is.
+ * with each that is news; the number of threads that wait for each other, each: thread, the word of the acquire or join
+ * that waits, the thread that has the lock or is joined, whether that one has ended, and two numbers that tell how far
+ * the thread is.
  * That of `report`:
  *
  *     number of files;   a text each: the path
@@ -27,6 +28,7 @@
  */
 #define _GNU_SOURCE
 #include <stdbool.h>
+#include <stddef.h>
 #include <sys/mman.h>
 
 #include "goodlock.h"
@@ -202,7 +204,7 @@ static void record_note(struct recorded *recorded, const uint64_t *record, uint6
     uint32_t kind = (uint32_t)*record;
     if (size < 2 || record[1] > UINT32_MAX)
         return;
-    if (kind == RECORD_THREAD && size * 8 >= sizeof(struct thread_record))
+    if (kind == RECORD_THREAD && size * 8 >= offsetof(struct thread_record, joins))
         thread_note(recorded, (const struct thread_record *)record);
     else if (kind == RECORD_ENDED)
         locks_add(&recorded->ended, record[1]);
@@ -261,6 +263,14 @@ struct progress {
     uint64_t stored, gone;
 };
 
+/* The join that a thread waits in; 0: none. */
+static uint64_t joins_of(const struct thread_record *record)
+{
+    int has_joins = record && (*(const uint64_t *)record >> 32) * 8 >= sizeof *record;
+    uint64_t word = has_joins ? __atomic_load_n(&record->joins, __ATOMIC_ACQUIRE) : 0;
+    return word % KINDS == EVENT_JOIN ? word : 0;
+}
+
 /* Copies the words of a thread's latest chunk as they were at one moment; how many. The words in front stay for ever;
  * those behind may be taken back and stored anew meanwhile, which the version tells: then they are read again. Should
  * that not end, what stays is the copy. `stay`: how many of the words stay. */
@@ -311,10 +321,11 @@ struct waits {
     struct locks owner_died; /* locks that are taken though a thread has ended that held them */
 };
 
-static void waits_add(struct waits *waits, const struct holding *holding, uint32_t thread,
+/* `joins`: the join that the thread waits in, which comes after all that it did before. */
+static void waits_add(struct waits *waits, const struct holding *holding, uint32_t thread, uint64_t joins,
                       const struct progress *progress)
 {
-    uint64_t last = locks_have(&waits->ended, thread) ? 0 : holding->last;
+    uint64_t last = locks_have(&waits->ended, thread) ? 0 : joins ? joins : holding->last;
     uint32_t wanted = (uint32_t)(last >> OBJECT_SHIFT);
     unsigned kind = last % KINDS;
     for (unsigned i = 0; i < holding->count; i++) {
@@ -343,10 +354,20 @@ static struct wait *wait_of(struct waits *waits, uint32_t thread)
     return NULL;
 }
 
+/* Whether the thread that this one joins waits itself. One that has ended is joined at once. */
+static int join_is_kept_up(struct waits *waits, struct wait *wait)
+{
+    wait->on = (uint32_t)(wait->word >> OBJECT_SHIFT);
+    struct wait *other = wait_of(waits, wait->on);
+    return other && other->stays;
+}
+
 /* A thread that has what this one waits for, and waits itself or has ended; whether there is one. */
 static int wait_is_kept_up(struct waits *waits, struct wait *wait)
 {
     unsigned kind = wait->word % KINDS;
+    if (kind == EVENT_JOIN)
+        return join_is_kept_up(waits, wait);
     int itself = kind == EVENT_AGAIN || kind == EVENT_UPGRADE;
     for (size_t i = 0; i < waits->hold_count; i++) {
         const struct hold *hold = &waits->holds[i];
@@ -489,7 +510,7 @@ static void chunk_copy(const struct recorded *recorded, size_t i, struct copied 
     copied->hash = hash_step(copied->hash, (uint64_t)thread << 32 | stay);
     copied->progress.stored += count;
     if (is_last) {
-        waits_add(&copied->waits, &copied->holding, thread, &copied->progress);
+        waits_add(&copied->waits, &copied->holding, thread, joins_of(record), &copied->progress);
         memset(&copied->holding, 0, sizeof copied->holding);
         memset(&copied->progress, 0, sizeof copied->progress);
     }

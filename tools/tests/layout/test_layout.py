@@ -48,7 +48,7 @@ PYTHON = {
         **SHIFTS,
         **records("PROCESS", "MODULE", "SITE", "LOCK", "THREAD", "START", "UNLOADED", "LOSSES", "END", *NAMED),
         **same("END_UNKNOWN", "END_EXIT", "END_EXEC"),
-        **events("UPGRADE", "BEYOND", "AGAIN"),
+        **events("JOIN", "UPGRADE", "BEYOND", "AGAIN"),
         **same("LOCK_MADE", "HELD_LIMIT"),
         "SITE_MASK": "SITE_LIMIT - 1",
         "KINDS": KINDS,

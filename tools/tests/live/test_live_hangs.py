@@ -172,6 +172,45 @@ def test_first_thread_that_ended():
     live.end(signal.SIGTERM)
 
 
+def place(mark):
+    return MARKS["live.c", mark]
+
+
+@pytest.mark.parametrize("how", range(4), ids=["join", "timed", "clock", "c11"])
+def test_thread_that_joins_one_which_wants_its_lock(how):
+    """By each call that waits for ever. It is told in the words of other waits, with the place of the join."""
+    live = Live("./live", "joins", "%d" % how).is_ready()
+    live.wait_for_words(" hangs: ")
+    waits = [
+        "main.1:joins_holding waits for the end of main.1.1:takes_a at " + place("joins_%d" % how),
+        "main.1.1:takes_a waits for a at %s, which main.1:joins_holding holds" % place("takes_a"),
+    ]
+    assert live.says().endswith(" hangs: " + "; ".join(waits) + "\n"), live.says()
+    os.kill(live.program, signal.SIGKILL)
+    live.end()
+    assert " hung: " + "; ".join(waits) in live.said, live.said
+
+
+def test_joins_in_a_row():
+    live = Live("./live", "joins_in_a_row").is_ready()
+    live.wait_for_words(" hangs: ")
+    waits = [
+        "main waits for the end of main.2:joins_another at " + place("joins_outer"),
+        "main.2:joins_another waits for the end of main.1:takes_a at " + place("joins_inner"),
+        "main.1:takes_a waits for a at %s, which main holds" % place("takes_a"),
+    ]
+    assert " hangs: " in live.says() and sorted(live.says().split(" hangs: ")[1].rstrip().split("; ")) == sorted(waits)
+    live.end(signal.SIGTERM)
+
+
+@pytest.mark.parametrize("how", [4, 5], ids=["deadline", "cancelled"])
+def test_join_that_ends(how):
+    """At its deadline, or as its thread is cancelled, which holds the lock for a while in its cleanup handler."""
+    done = reported("./live", "joins", "%d" % how)
+    assert done.status == 0 and "; settled" in done.said, done.said
+    assert " hangs: " not in done.said and " hung: " not in done.said, done.said
+
+
 def test_end_while_a_thread_waits_for_one_that_has_ended():
     done = reported("./live", "holder_ended", "3")
     assert (

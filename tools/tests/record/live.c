@@ -8,6 +8,8 @@
 #include <string.h>
 #include <sys/syscall.h>
 #include <sys/wait.h>
+#include <threads.h>
+#include <time.h>
 #include <unistd.h>
 
 #include "turns.h"
@@ -191,6 +193,74 @@ static void hangs(void)
     if (fgets(line, sizeof line, stdin))
         pthread_create(&threads[2], NULL, other_way, NULL);
     pause();
+}
+
+static pthread_t joined;
+
+static void *takes_a(void *unused)
+{
+    pthread_mutex_lock(&a); /* @takes_a */
+    pthread_mutex_unlock(&a);
+    return unused;
+}
+
+static void unlocks_later(void *lock)
+{
+    sleep(2);
+    pthread_mutex_unlock(lock);
+}
+
+/* How a thread joins another one, which waits for the lock that it holds. The first ones wait for ever, the last ones don't. */
+enum { PLAINLY, WITHOUT_DEADLINE, BY_A_CLOCK_WITHOUT_DEADLINE, BY_C11, WITH_DEADLINE, CANCELLED };
+
+static void *joins_holding(void *unused)
+{
+    struct timespec deadline;
+    pthread_mutex_lock(&a);
+    pthread_cleanup_push(unlocks_later, &a);
+    pthread_create(&joined, NULL, takes_a, NULL);
+    clock_gettime(CLOCK_REALTIME, &deadline);
+    deadline.tv_sec += 2;
+    switch (number) {
+    case PLAINLY: case CANCELLED: pthread_join(joined, NULL); break; /* @joins_0 */
+    case WITHOUT_DEADLINE: pthread_timedjoin_np(joined, NULL, NULL); break; /* @joins_1 */
+    case BY_A_CLOCK_WITHOUT_DEADLINE: pthread_clockjoin_np(joined, NULL, CLOCK_MONOTONIC, NULL); break; /* @joins_2 */
+    case BY_C11: thrd_join(joined, NULL); break; /* @joins_3 */
+    case WITH_DEADLINE: pthread_timedjoin_np(joined, NULL, &deadline); break;
+    }
+    pthread_cleanup_pop(1);
+    return unused;
+}
+
+static void joins(void)
+{
+    pthread_t thread;
+    pthread_create(&thread, NULL, joins_holding, NULL);
+    wait_for_others();
+    if (number == CANCELLED)
+        pthread_cancel(thread);
+    else
+        say_ready();
+    pthread_join(thread, NULL);
+    if (number >= WITH_DEADLINE)
+        pthread_join(joined, NULL);
+}
+
+/* Main holds the lock that main.1 wants, and joins main.2, which joins main.1. */
+static void *joins_another(void *unused)
+{
+    pthread_join(joined, NULL); /* @joins_inner */
+    return unused;
+}
+
+static void joins_in_a_row(void)
+{
+    pthread_t thread;
+    pthread_mutex_lock(&a);
+    pthread_create(&joined, NULL, takes_a, NULL);
+    pthread_create(&thread, NULL, joins_another, NULL);
+    say_ready();
+    pthread_join(thread, NULL); /* @joins_outer */
 }
 
 /* So many threads one after the other, each with its own lock and the next one's. */
@@ -418,7 +488,7 @@ int main(int count, char **arguments)
     } programs[] = {
         {"waits", waits}, {"goes_on", goes_on}, {"comes_later", comes_later}, {"gates", gates}, {"churn", churn},
         {"own_signal", own_signal}, {"forks", forks}, {"repeats", repeats}, {"killed", killed}, {"races", races},
-        {"hangs", hangs}, {"holder_ended", holder_ended}, {"owner_died", owner_died}, {"ring", ring}, {"ends", ends}, {"child_ends", child_ends}, {"churn_and_gates", churn_and_gates},
+        {"hangs", hangs}, {"holder_ended", holder_ended}, {"owner_died", owner_died}, {"ring", ring}, {"joins", joins}, {"joins_in_a_row", joins_in_a_row}, {"ends", ends}, {"child_ends", child_ends}, {"churn_and_gates", churn_and_gates},
     };
     number = count > 2 ? atoi(arguments[2]) : 0;
     for (size_t i = 0; count > 1 && i < sizeof programs / sizeof programs[0]; i++)
