@@ -31,8 +31,9 @@ void number_note(enum record_kind kind, uint64_t number);
 /* Pages that are zero in a forked child. */
 void *pages_new_wiped(size_t bytes);
 
-/* Whether the address lies in the C++ library. Called between slow_enter and slow_leave. */
-int in_wrapper_module(uint64_t address);
+/* Whether a thread's start routine is one of the C++ library, which runs the object that it is given. Called between
+ * slow_enter and slow_leave. */
+int runs_object(uint64_t routine);
 
 /* After a library may have gone: ends what is known of those that have. */
 void modules_check(void);

@@ -85,9 +85,12 @@ static int is_thread_wrapper(const char *rest)
            strncmp(rest, "15_M_start_thread", 17) == 0;
 }
 
+/* What the C++ library's threads begin with. */
+#define THREAD_ROUTINE "execute_native_thread_routine"
+
 static int is_wrapper_name(const char *symbol)
 {
-    if (strncmp(symbol, "_ZL", 3) == 0 && strstr(symbol, "__gthread_"))
+    if ((strncmp(symbol, "_ZL", 3) == 0 && strstr(symbol, "__gthread_")) || strcmp(symbol, THREAD_ROUTINE) == 0)
         return 1;
     const char *at = symbol;
     if (strncmp(at, "_ZN", 3) == 0)
@@ -332,10 +335,10 @@ void modules_check(void)
     slow_leave(&state);
 }
 
-int in_wrapper_module(uint64_t address)
+/* Also where that library is linked into the program: no other wrapper there is a start routine. */
+int runs_object(uint64_t routine)
 {
-    struct module *module = module_known(address);
-    return module && module->all_wrappers;
+    return module_known(routine) && is_wrapper(routine + 1);
 }
 
 /* --- Walking ---------------------------------------------------------------------------------------------- */

@@ -71,7 +71,7 @@ static void object_copy(uint64_t *words, const void *object)
 
 static struct thread_record *thread_record_new(uint64_t parent, uint64_t child, uint64_t routine, void *argument)
 {
-    int object = argument && in_wrapper_module(routine); /* may write records itself */
+    int object = argument && runs_object(routine); /* may write records itself */
     struct thread_record *record = record_new(RECORD_THREAD, sizeof *record);
     if (!record)
         return NULL;
