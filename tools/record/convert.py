@@ -289,7 +289,48 @@ def processes_of(events, tables, modules):
             )
     for process in processes.values():
         process.parent = processes.get(process.parent)
+    find_deleted(processes, modules)
     return processes, faults
+
+
+DELETED = " (deleted)"  # behind the name of a file that has none any more
+
+
+def deleted_files(pid, image):
+    """The files that a process runs and that were deleted or replaced: by the address where each begins in memory a path by which it
+    can be read, as long as the process runs. Only the system's administrator may read those of libraries."""
+    try:
+        with open("/proc/%d/maps" % pid, "rb") as file:
+            lines = [line.split(None, 5) for line in os.fsdecode(file.read()).split("\n")]
+        program = os.readlink("/proc/%d/exe" % pid)
+    except OSError:
+        return {}
+    mapped = [parts for parts in lines if len(parts) == 6]
+    if not any(parts[5].endswith("/%d.%d.0" % (pid, image)) for parts in mapped):
+        return {}  # another process has this number, in a namespace around
+    found = {}
+    for area, *_, path in (parts for parts in mapped if parts[5].endswith(DELETED)):
+        start, end = (int(address, 16) for address in area.split("-"))
+        found[start] = "/proc/%d/exe" % pid if path == program else "/proc/%d/map_files/%x-%x" % (pid, start, end)
+    return found
+
+
+def find_deleted(processes, modules):
+    """Has the modules whose files are gone read by way of the processes that still run them. `modules`: those that are known, also
+    each by its file, and by process and path."""
+    for process in processes.values():
+        files = deleted_files(*process.key)
+        for loaded in process.modules.loaded:
+            file, key = files.get(loaded.start // CHUNK_UNIT * CHUNK_UNIT), (process.key, loaded.module.path)
+            try:
+                if file and os.access(file, os.R_OK):
+                    status = os.stat(file)
+                    path = loaded.module.path.removesuffix(DELETED)
+                    modules[key] = modules.setdefault((status.st_dev, status.st_ino), Module(path))
+                    modules[key].file = file
+            except OSError:  # it has just ended
+                pass
+            loaded.module = modules.get(key, loaded.module)
 
 
 def read_tables(recording, wanted):

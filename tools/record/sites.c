@@ -151,9 +151,9 @@ static const ElfW(Shdr) * symbol_table(const char *file, size_t size)
     return NULL;
 }
 
-static void module_find_wrappers(struct module *module)
+static void module_find_wrappers(struct module *module, const char *path)
 {
-    int file = open(module->path, O_RDONLY | O_CLOEXEC);
+    int file = open(path, O_RDONLY | O_CLOEXEC);
     struct stat status;
     if (file < 0)
         return;
@@ -215,17 +215,19 @@ static void module_add(struct dl_phdr_info *info, uintptr_t start, uintptr_t end
     module->bias = info->dlpi_addr;
     module->start = start;
     module->end = end;
-    if (info->dlpi_name && info->dlpi_name[0]) {
+    static const char program[] = "/proc/self/exe"; /* is there also where the file was deleted */
+    int is_program = !info->dlpi_name || !info->dlpi_name[0];
+    if (!is_program) {
         snprintf(module->path, sizeof module->path, "%s", info->dlpi_name);
     } else {
-        ssize_t length = readlink("/proc/self/exe", module->path, sizeof module->path - 1);
+        ssize_t length = readlink(program, module->path, sizeof module->path - 1);
         module->path[length > 0 ? length : 0] = 0;
     }
     const char *base = strrchr(module->path, '/');
     base = base ? base + 1 : module->path;
     module->all_wrappers = strncmp(base, "libstdc++.so", 12) == 0 || strncmp(base, "libc++.so", 9) == 0;
     if (!module->all_wrappers)
-        module_find_wrappers(module);
+        module_find_wrappers(module, is_program ? program : module->path);
     module->present = 1;
     modules[module_count++] = module;
 }

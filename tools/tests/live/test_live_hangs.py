@@ -1,6 +1,7 @@
 """What counts as a hang: a circle of threads none of which did anything for half a second."""
 
 import os
+import shutil
 import signal
 import struct
 import sys
@@ -174,6 +175,20 @@ def test_first_thread_that_ended():
 
 def place(mark):
     return MARKS["live.c", mark]
+
+
+@pytest.mark.parametrize("what", ["deletes_itself", "hangs"], ids=["deleted", "replaced"])
+def test_program_whose_file_is_gone(what):
+    """It is read by way of the process, as long as that runs: of another file in its place nothing would be right."""
+    shutil.copy("live", "gone")
+    live = Live("./gone", what).is_ready()
+    if what == "hangs":
+        shutil.copy("locks", "other")
+        os.replace("other", "gone")
+    live.wait_for_words(" hangs: ")
+    wait = "main.1:holds waits for a at %s, which main.2:holds holds" % place("second_of_two")
+    assert " hangs: " + wait in live.says(), live.says()
+    live.end(signal.SIGTERM)
 
 
 @pytest.mark.parametrize("how", range(4), ids=["join", "timed", "clock", "c11"])

@@ -94,7 +94,7 @@ static void *holds(void *order)
 {
     pthread_mutex_lock(order ? &a : &b);
     pthread_barrier_wait(&each_holds_one);
-    pthread_mutex_lock(order ? &b : &a);
+    pthread_mutex_lock(order ? &b : &a); /* @second_of_two */
     return NULL;
 }
 
@@ -261,6 +261,15 @@ static void joins_in_a_row(void)
     pthread_create(&thread, NULL, joins_another, NULL);
     say_ready();
     pthread_join(thread, NULL); /* @joins_outer */
+}
+
+static const char *own_file;
+
+/* Hangs, and its file is gone before the first event. */
+static void deletes_itself(void)
+{
+    unlink(own_file);
+    hangs();
 }
 
 /* So many threads one after the other, each with its own lock and the next one's. */
@@ -488,8 +497,9 @@ int main(int count, char **arguments)
     } programs[] = {
         {"waits", waits}, {"goes_on", goes_on}, {"comes_later", comes_later}, {"gates", gates}, {"churn", churn},
         {"own_signal", own_signal}, {"forks", forks}, {"repeats", repeats}, {"killed", killed}, {"races", races},
-        {"hangs", hangs}, {"holder_ended", holder_ended}, {"owner_died", owner_died}, {"ring", ring}, {"joins", joins}, {"joins_in_a_row", joins_in_a_row}, {"ends", ends}, {"child_ends", child_ends}, {"churn_and_gates", churn_and_gates},
+        {"hangs", hangs}, {"holder_ended", holder_ended}, {"owner_died", owner_died}, {"ring", ring}, {"deletes_itself", deletes_itself}, {"joins", joins}, {"joins_in_a_row", joins_in_a_row}, {"ends", ends}, {"child_ends", child_ends}, {"churn_and_gates", churn_and_gates},
     };
+    own_file = arguments[0];
     number = count > 2 ? atoi(arguments[2]) : 0;
     for (size_t i = 0; count > 1 && i < sizeof programs / sizeof programs[0]; i++)
         if (strcmp(programs[i].name, arguments[1]) == 0) {
