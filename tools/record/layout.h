@@ -73,6 +73,8 @@ enum record_kind {
     RECORD_OWNER_DIED =
         10,          /* the lock of this number was taken though a thread had ended that held it: robust mutexes */
     RECORD_END = 11, /* how the process ended */
+    RECORD_LEFT_LOCKED =
+        12, /* a forked process has the lock of this number from its parent, of which a thread held it */
     /* Of recorders that know names and no addresses, as those of Java and Python. */
     RECORD_PLACE = 16,     /* a site's text: lines `path:line` or without a colon, the innermost first */
     RECORD_LOCK_KIND = 17, /* what stands for a lock's class in its name */

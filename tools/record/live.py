@@ -69,6 +69,7 @@ END_LIMIT = 5
 # Of each thread that waits: its number, the word of its acquire or join, who has the lock or is joined, whether that one has ended,
 # and two numbers that tell how far it is.
 WAIT_WORDS = 6
+OF_PARENT = 2  # that a thread of the parent's has the lock, which this process doesn't have
 
 
 class Copied:
@@ -268,8 +269,11 @@ def round_text(process, found):
             parts.append("%s waits for the end of %s at %s" % (name, who, place))
             continue
         lock = process.names.locks.get(word >> OBJECT_SHIFT, "?")
-        text = "%s waits for %s at %s, which %s holds" % (name, lock, place, who)
-        parts.append(text + (", though it has ended" if has_ended else ""))
+        text = "%s waits for %s at %s, which " % (name, lock, place)
+        if has_ended == OF_PARENT:
+            parts.append(text + "a thread of its parent held at the fork")
+        else:
+            parts.append(text + "%s holds%s" % (who, ", though it has ended" if has_ended else ""))
     return "; ".join(parts)
 
 
@@ -490,6 +494,8 @@ class LiveSummary(Summary):
             self.open = "it isn't known how the process ended"
         elif self.lost["events"]:
             self.open = "events were lost"
+        elif any(has_ended == OF_PARENT for _, _, _, has_ended, *_ in self.copy.round):
+            self.open = "it ended while a thread waited for one of its parent's"
         elif any(has_ended for _, _, _, has_ended, *_ in self.copy.round):
             self.open = "it ended while a thread waited for one that had ended before"
         elif self.copy.round:

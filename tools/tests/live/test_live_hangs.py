@@ -206,6 +206,25 @@ def test_thread_that_joins_one_which_wants_its_lock(how):
     assert " hung: " + "; ".join(waits) in live.said, live.said
 
 
+@pytest.mark.parametrize("how, lock, mark", [("0", "a", "inherits"), ("1", "shared_lock", "inherits_shared")])
+def test_lock_that_a_thread_of_the_parent_held_at_the_fork(how, lock, mark):
+    live = Live("./live", "inherits", how).is_ready()
+    live.wait_for_words(" hangs: ")
+    wait = "main waits for %s at %s, which a thread of its parent held at the fork\n" % (lock, place(mark))
+    assert live.says().endswith("process %d (./live inherits %s) hangs: %s" % (live.program, how, wait)), live.says()
+    os.kill(live.program, signal.SIGKILL)
+    live.end(status=0)
+    assert live.said.endswith(" hung: " + wait), live.said
+
+
+@pytest.mark.parametrize("how", ["2", "3", "4"], ids=["made_anew", "of_the_forking_thread", "of_both"])
+def test_locks_of_the_parent_that_a_child_gets(how):
+    """Each holds its lock for a while without an event, and the other one waits."""
+    done = reported("./live", "inherits", how)
+    assert done.status == 0 and done.said.count("; settled") == 2, done.said
+    assert " hangs: " not in done.said and " hung: " not in done.said, done.said
+
+
 def test_joins_in_a_row():
     live = Live("./live", "joins_in_a_row").is_ready()
     live.wait_for_words(" hangs: ")

@@ -6,6 +6,7 @@
 #include <stdio.h>
 #include <stdlib.h>
 #include <string.h>
+#include <sys/mman.h>
 #include <sys/syscall.h>
 #include <sys/wait.h>
 #include <threads.h>
@@ -263,6 +264,81 @@ static void joins_in_a_row(void)
     pthread_join(thread, NULL); /* @joins_outer */
 }
 
+static pthread_rwlock_t shared_lock = PTHREAD_RWLOCK_INITIALIZER;
+static pthread_mutex_t *between;
+
+/* What a child has of its parent's locks: those that a thread holds which it doesn't have, as a mutex and for writing; and those
+ * that it gets, as it makes them anew, as its own thread held them, or as they are those of both processes. */
+enum { MUTEX_OF_A_THREAD, WRITER, MADE_ANEW, OF_THE_FORKING_THREAD, OF_BOTH };
+
+static void *holds_for_a_while(void *unused)
+{
+    if (number == WRITER)
+        pthread_rwlock_wrlock(&shared_lock);
+    else
+        pthread_mutex_lock(between);
+    sleep(number <= WRITER ? 0 : 2);
+    if (number <= WRITER)
+        pause();
+    pthread_mutex_unlock(between);
+    return unused;
+}
+
+static void makes_anew(void)
+{
+    pthread_mutex_init(&a, NULL);
+}
+
+static void *takes_it(void *unused)
+{
+    if (number == WRITER) {
+        pthread_rwlock_rdlock(&shared_lock); /* @inherits_shared */
+        return unused;
+    }
+    pthread_mutex_lock(between); /* @inherits */
+    sleep(2);
+    pthread_mutex_unlock(between);
+    return unused;
+}
+
+static void in_the_child(void)
+{
+    pthread_t thread;
+    say_ready();
+    if (number != OF_THE_FORKING_THREAD) {
+        takes_it(NULL);
+        return;
+    }
+    pthread_create(&thread, NULL, takes_it, NULL);
+    sleep(2);
+    pthread_mutex_unlock(between);
+    pthread_join(thread, NULL);
+}
+
+static void inherits(void)
+{
+    pthread_t thread;
+    pthread_mutexattr_t of_both;
+    between = number == OF_BOTH ? mmap(NULL, 4096, PROT_READ | PROT_WRITE, MAP_SHARED | MAP_ANONYMOUS, -1, 0) : &a;
+    if (number == OF_BOTH) {
+        pthread_mutexattr_init(&of_both);
+        pthread_mutexattr_setpshared(&of_both, PTHREAD_PROCESS_SHARED);
+        pthread_mutex_init(between, &of_both);
+    }
+    if (number == MADE_ANEW)
+        pthread_atfork(NULL, NULL, makes_anew);
+    if (number == OF_THE_FORKING_THREAD)
+        pthread_mutex_lock(between);
+    else
+        pthread_create(&thread, NULL, holds_for_a_while, NULL);
+    wait_for_others();
+    if (fork() == 0) {
+        in_the_child();
+        _exit(0);
+    }
+    wait(NULL);
+}
+
 static const char *own_file;
 
 /* Hangs, and its file is gone before the first event. */
@@ -497,7 +573,7 @@ int main(int count, char **arguments)
     } programs[] = {
         {"waits", waits}, {"goes_on", goes_on}, {"comes_later", comes_later}, {"gates", gates}, {"churn", churn},
         {"own_signal", own_signal}, {"forks", forks}, {"repeats", repeats}, {"killed", killed}, {"races", races},
-        {"hangs", hangs}, {"holder_ended", holder_ended}, {"owner_died", owner_died}, {"ring", ring}, {"deletes_itself", deletes_itself}, {"joins", joins}, {"joins_in_a_row", joins_in_a_row}, {"ends", ends}, {"child_ends", child_ends}, {"churn_and_gates", churn_and_gates},
+        {"hangs", hangs}, {"holder_ended", holder_ended}, {"owner_died", owner_died}, {"ring", ring}, {"deletes_itself", deletes_itself}, {"inherits", inherits}, {"joins", joins}, {"joins_in_a_row", joins_in_a_row}, {"ends", ends}, {"child_ends", child_ends}, {"churn_and_gates", churn_and_gates},
     };
     own_file = arguments[0];
     number = count > 2 ? atoi(arguments[2]) : 0;
