@@ -72,6 +72,7 @@ class Files:
             os.close(self.descriptor)
             self.descriptor = None
         try:
+            os.fchmod(descriptor, 0o600)  # whatever the program's umask is; until then it is empty
             os.ftruncate(descriptor, EXTENT_BYTES)
             self.extent = memoryview(mmap.mmap(descriptor, EXTENT_BYTES))
         except BaseException:

@@ -19,17 +19,18 @@ CHUNK_UNIT = 4096
 CHUNK_HEAD = 32
 CHUNK_EVENTS, CHUNK_TABLE = 0x676C6576, 0x676C7462
 RECORD_PROCESS, RECORD_MODULE, RECORD_SITE, RECORD_LOCK, RECORD_THREAD = 1, 2, 3, 4, 5
-RECORD_START, RECORD_UNLOADED, RECORD_LOSSES = 6, 7, 8
+RECORD_START, RECORD_UNLOADED, RECORD_LOSSES, RECORD_END = 6, 7, 8, 11
 RECORD_PLACE, RECORD_LOCK_KIND, RECORD_LOCK_NAME, RECORD_ROUTINE, RECORD_NOTE, RECORD_NO_LOCK = 16, 17, 18, 19, 20, 21
 LOCK_CLASSES = {1: "mutex", 2: "rwlock", 3: "spin", 4: "once", 5: "static"}
 LOCK_MADE = 1
+END_UNKNOWN, END_EXIT, END_EXEC = 0, 1, 2
 FOREIGN = 0xFFFFFFFF
 
 SITE_SHIFT, SITE_MASK = 5, (1 << 27) - 1
 OBJECT_SHIFT = 32
 KINDS = 32
 NO_KINDS = (0,) * KINDS
-UPGRADE, BEYOND, AGAIN = 9, 10, 11
+JOIN, UPGRADE, BEYOND, AGAIN = 8, 9, 10, 11
 NO_THREAD = 0xFFFFFFFFFFFFFFFF
 THREAD_LIMIT = 1024  # goodlock reads no more threads
 EXAMPLES = 256  # how many threads at most are in all windows for what they do
@@ -87,7 +88,7 @@ class Thread:
         (self.number, self.parent, self.child, self.routine, self.unmade) = values[:5]
         self.children = values[6]
         (self.left_out, self.lost, self.others) = values[8:11]
-        self.object = values[11:] if any(values[11:]) else ()
+        self.object = values[11:19] if any(values[11:19]) else ()
         self.when = when
         self.chunks = []  # (order, path, offset of the words, how many)
         self.kinds = NO_KINDS
@@ -154,6 +155,7 @@ class Process:
         self.locks = {}
         self.threads = {}
         self.lost = Counter()
+        self.end = END_UNKNOWN
         self.places = {}  # number: lines `path:line`, of a recorder that knows names
         self.notes = []
         self.no_locks = []
@@ -205,6 +207,8 @@ class Process:
             self.threads[values[0]] = Thread(values.tolist(), self.modules.when)
         elif kind == RECORD_LOSSES:
             self.lost = Counter(dict(zip(("events", "locks", "places", "threads"), values.tolist())))
+        elif kind == RECORD_END:
+            self.end = values[0]
         elif kind == RECORD_NO_LOCK:
             self.no_locks.append(values[0])
         elif RECORD_PLACE <= kind <= RECORD_NOTE:
@@ -285,7 +289,48 @@ def processes_of(events, tables, modules):
             )
     for process in processes.values():
         process.parent = processes.get(process.parent)
+    find_deleted(processes, modules)
     return processes, faults
+
+
+DELETED = " (deleted)"  # behind the name of a file that has none any more
+
+
+def deleted_files(pid, image):
+    """The files that a process runs and that were deleted or replaced: by the address where each begins in memory a path by which it
+    can be read, as long as the process runs. Only the system's administrator may read those of libraries."""
+    try:
+        with open("/proc/%d/maps" % pid, "rb") as file:
+            lines = [line.split(None, 5) for line in os.fsdecode(file.read()).split("\n")]
+        program = os.readlink("/proc/%d/exe" % pid)
+    except OSError:
+        return {}
+    mapped = [parts for parts in lines if len(parts) == 6]
+    if not any(parts[5].endswith("/%d.%d.0" % (pid, image)) for parts in mapped):
+        return {}  # another process has this number, in a namespace around
+    found = {}
+    for area, *_, path in (parts for parts in mapped if parts[5].endswith(DELETED)):
+        start, end = (int(address, 16) for address in area.split("-"))
+        found[start] = "/proc/%d/exe" % pid if path == program else "/proc/%d/map_files/%x-%x" % (pid, start, end)
+    return found
+
+
+def find_deleted(processes, modules):
+    """Has the modules whose files are gone read by way of the processes that still run them. `modules`: those that are known, also
+    each by its file, and by process and path."""
+    for process in processes.values():
+        files = deleted_files(*process.key)
+        for loaded in process.modules.loaded:
+            file, key = files.get(loaded.start // CHUNK_UNIT * CHUNK_UNIT), (process.key, loaded.module.path)
+            try:
+                if file and os.access(file, os.R_OK):
+                    status = os.stat(file)
+                    path = loaded.module.path.removesuffix(DELETED)
+                    modules[key] = modules.setdefault((status.st_dev, status.st_ino), Module(path))
+                    modules[key].file = file
+            except OSError:  # it has just ended
+                pass
+            loaded.module = modules.get(key, loaded.module)
 
 
 def read_tables(recording, wanted):

@@ -99,6 +99,7 @@ class Family:
         self.say = say
         self.strangers = frozenset(descendants())  # children from before: an exec may bring some
         self.companion = None  # of a live recording: SIGUSR1 is for it
+        self.signalled = {}  # wait statuses of the children that a signal ended
 
     def accompany(self, companion):
         self.companion = companion
@@ -127,6 +128,8 @@ class Family:
                 return status
             if ended == first:
                 status = how
+            if os.WIFSIGNALED(how):
+                self.signalled[ended] = how
             if self.companion:
                 self.companion.ended(ended)
 
@@ -157,6 +160,7 @@ class Family:
             family = descendants(self.strangers)
             running = [p for p in family if maps_file(p, self.token) is not False]
             if not running and (not family or time.monotonic() > limit):
+                self.reap()  # some may have ended while we looked
                 return True
             if running:
                 limit = time.monotonic() + BEGIN_LIMIT

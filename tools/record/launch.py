@@ -130,8 +130,8 @@ class Settings:
 
 def read_number(word, text, least, most):
     try:
-        number = int(text) if text.isdigit() else -1
-    except ValueError:  # of digits that aren't those of a number, or of very many
+        number = int(text) if text.isascii() and text.isdigit() else -1
+    except ValueError:  # of very many digits
         number = -1
     if not least <= number <= most:
         raise Failed("%s takes a number from %d to %d" % (word, least, most))
@@ -145,12 +145,11 @@ def read_mode(text):
 
 
 def read_seconds(text):
-    try:
-        seconds = float(text)
-    except ValueError:
-        seconds = 0
+    """A number in digits, perhaps with a point: no more than that of what Python takes for one."""
+    digits = text.replace(".", "", 1)
+    seconds = float(text) if digits.isascii() and digits.isdigit() else 0
     if not SECONDS_LEAST <= seconds <= SECONDS_MOST:
-        raise Failed("--every takes a number of seconds, from %g to %d" % (SECONDS_LEAST, SECONDS_MOST))
+        raise Failed("--every takes a number of seconds, as 2 or 0.5, from %g to %d" % (SECONDS_LEAST, SECONDS_MOST))
     return seconds
 
 
@@ -284,7 +283,8 @@ def started_program(settings, environment, mask):
 
 
 def record(settings):
-    """Runs the program; the recording, the program's number and wait status, and which processes still run."""
+    """Runs the program; the recording, the program's number and wait status, which processes still run, and how those ended of
+    which that is known."""
     from family import WAITED, Family, adopt_orphans
     from recording import new_recording
 
@@ -317,7 +317,7 @@ def record(settings):
         if family.companion:
             family.companion.end()
         recorder.clean_up()
-    return recording, process, status, running
+    return recording, process, status, running, {**family.signalled, process: status}
 
 
 def follow(settings, recording, process, family):
@@ -363,9 +363,18 @@ def recording_at(path):
     return recording
 
 
-def convert_all(recording, settings, first, running, ended_by):
+def left_behind(path):
+    """The recording that was left in a directory, and the processes that still write it."""
+    try:
+        recording = recording_at(path)
+        return recording, recording.writers()
+    except OSError as error:
+        raise Failed("%s: nothing was changed" % error)
+
+
+def convert_all(recording, settings, first, running, ends):
     """Writes the traces or reports; whether there is an event in any, and whether any process began its files. `running`: the
-    processes that still write, as was seen before anything is read. `ended_by`: the signal that ended the first process.
+    processes that still write, as was seen before anything is read. `ends`: the wait statuses that are known, by process.
     """
     from build import BuildError
     from convert import ConvertError, convert_recording, summary_lines
@@ -375,7 +384,7 @@ def convert_all(recording, settings, first, running, ended_by):
             from live import report_recording
 
             summaries, faults = report_recording(
-                recording, settings.trace, first, running, ended_by, question_of(settings), settings.functions
+                recording, settings.trace, first, running, ends, question_of(settings), settings.functions
             )
         else:
             summaries, faults = convert_recording(recording, settings.trace, first, settings.functions)
@@ -414,13 +423,12 @@ def run(settings):
         if os.path.lexists(path):
             raise Failed("%s exists already; nothing was run" % path)
     if settings.convert is not None:
-        recording, first, status = recording_at(settings.convert), None, 0
-        running = recording.writers()
+        recording, running = left_behind(settings.convert)
+        first, status, ends = None, 0, {}
     else:
-        recording, first, status, running = record(settings)
-    ended_by = os.WTERMSIG(status) if os.WIFSIGNALED(status) else 0
+        recording, first, status, running, ends = record(settings)
     status = exit_status(status)
-    found, loaded = convert_all(recording, settings, first, running, ended_by)
+    found, loaded = convert_all(recording, settings, first, running, ends)
     if not found:
         what = "report" if settings.live else "trace"
         say("no events, no %s: %s (the program's own status was %d)" % (what, recorder.reason(loaded), status))

@@ -11,8 +11,8 @@
  *
  * The tables are read in the order of their chunks, whatever comes first in time: a record of a module holds for the
  * sites, locks and threads after it, until RECORD_UNLOADED takes it away. RECORD_PROCESS is the first record;
- * RECORD_START, RECORD_UNLOADED and RECORD_LOSSES may be missing. Records of other kinds are skipped. A lock without a
- * record has a name of its own too.
+ * RECORD_START, RECORD_UNLOADED, RECORD_LOSSES and RECORD_END may be missing. Records of other kinds are skipped. A
+ * lock without a record has a name of its own too.
  */
 #ifndef GOODLOCK_LAYOUT_H
 #define GOODLOCK_LAYOUT_H
@@ -71,7 +71,10 @@ enum record_kind {
     /* For who asks which threads wait for ever (convert/live.c). */
     RECORD_ENDED = 9, /* the thread of this number ended, and held locks */
     RECORD_OWNER_DIED =
-        10, /* the lock of this number was taken though a thread had ended that held it: robust mutexes */
+        10,          /* the lock of this number was taken though a thread had ended that held it: robust mutexes */
+    RECORD_END = 11, /* how the process ended */
+    RECORD_LEFT_LOCKED =
+        12, /* a forked process has the lock of this number from its parent, of which a thread held it */
     /* Of recorders that know names and no addresses, as those of Java and Python. */
     RECORD_PLACE = 16,     /* a site's text: lines `path:line` or without a colon, the innermost first */
     RECORD_LOCK_KIND = 17, /* what stands for a lock's class in its name */
@@ -99,6 +102,18 @@ struct process_record {
 struct start_record {
     uint64_t head;
     uint64_t moment; /* when the process began: field 22 of /proc/PID/stat */
+};
+
+/* How the process ended: marked as it does. */
+enum end_kind {
+    END_UNKNOWN = 0, /* it runs on, a signal ended it, or it ended past the C library */
+    END_EXIT = 1,
+    END_EXEC = 2, /* it became another program */
+};
+
+struct end_record {
+    uint64_t head;
+    uint64_t how;
 };
 
 /* What there was no room for; counted on while the process runs. */
@@ -177,6 +192,7 @@ struct thread_record {
     uint64_t lost;                 /* events for which there was no room */
     uint64_t others;               /* calls that make no event */
     uint64_t object[OBJECT_WORDS]; /* the front of the C++ object that the thread runs; zeros if there is none */
+    uint64_t joins; /* the word of the join in which it waits, without a limit; 0: it is in none. May be missing */
 };
 
 #endif

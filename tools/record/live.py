@@ -14,6 +14,10 @@ from collections import namedtuple
 from build import BuildError
 from convert import (
     CHUNK_HEAD,
+    END_EXEC,
+    END_UNKNOWN,
+    JOIN,
+    KINDS,
     OBJECT_SHIFT,
     SITE_MASK,
     SITE_SHIFT,
@@ -62,9 +66,10 @@ END_LIMIT = 5
 
 # --- The copy of the events ------------------------------------------------------------------------------
 
-# Of each thread that waits: its number, the word of its acquire, who has the lock, whether that one has ended, and two numbers that
-# tell how far it is.
+# Of each thread that waits: its number, the word of its acquire or join, who has the lock or is joined, whether that one has ended,
+# and two numbers that tell how far it is.
 WAIT_WORDS = 6
+OF_PARENT = 2  # that a thread of the parent's has the lock, which this process doesn't have
 
 
 class Copied:
@@ -257,11 +262,18 @@ def round_text(process, found):
     """Who waits for whom."""
     parts = []
     for thread, word, holder, has_ended, *_ in found:
-        lock = process.names.locks.get(word >> OBJECT_SHIFT, "?")
+        name = process.names.thread_name(thread)
         place = process.names.places.text(word >> SITE_SHIFT & SITE_MASK)
         who = "itself" if thread == holder else process.names.thread_name(holder)
-        text = "%s waits for %s at %s, which %s holds" % (process.names.thread_name(thread), lock, place, who)
-        parts.append(text + (", though it has ended" if has_ended else ""))
+        if word % KINDS == JOIN:
+            parts.append("%s waits for the end of %s at %s" % (name, who, place))
+            continue
+        lock = process.names.locks.get(word >> OBJECT_SHIFT, "?")
+        text = "%s waits for %s at %s, which " % (name, lock, place)
+        if has_ended == OF_PARENT:
+            parts.append(text + "a thread of its parent held at the fork")
+        else:
+            parts.append(text + "%s holds%s" % (who, ", though it has ended" if has_ended else ""))
     return "; ".join(parts)
 
 
@@ -470,14 +482,20 @@ class LiveSummary(Summary):
         self.report = None
         self.open = None  # why the report isn't settled
 
-    def settle(self, running, ended_by):
-        """Says what stands against the report being that of all that the process does."""
+    def settle(self, running, how):
+        """Says what stands against the report being that of all that the process does. `how`: its wait status, or None where that
+        isn't known."""
+        end = self.process.end
         if is_among(self.process.key, running):
             self.open = "the process still runs"
-        elif ended_by:
-            self.open = "signal %d ended the process" % ended_by
+        elif how is not None and os.WIFSIGNALED(how) and end != END_EXEC:
+            self.open = "signal %d ended the process" % os.WTERMSIG(how)
+        elif how is None and end == END_UNKNOWN:
+            self.open = "it isn't known how the process ended"
         elif self.lost["events"]:
             self.open = "events were lost"
+        elif any(has_ended == OF_PARENT for _, _, _, has_ended, *_ in self.copy.round):
+            self.open = "it ended while a thread waited for one of its parent's"
         elif any(has_ended for _, _, _, has_ended, *_ in self.copy.round):
             self.open = "it ended while a thread waited for one that had ended before"
         elif self.copy.round:
@@ -509,8 +527,9 @@ class LiveSummary(Summary):
         )
 
 
-def report_recording(recording, path, first, running, ended_by, question, with_functions):
-    """Writes the report of each process; what is said of each, the first process's first, and what was damaged."""
+def report_recording(recording, path, first, running, ends, question, with_functions):
+    """Writes the report of each process; what is said of each, the first process's first, and what was damaged. `ends`: the wait
+    statuses that are known, by process."""
     copied = last_copy(recording, running)
     processes, faults = named_processes(recording, copied, {}, with_functions)
     if first is None and processes:
@@ -520,10 +539,11 @@ def report_recording(recording, path, first, running, ended_by, question, with_f
         if os.path.lexists(taken):
             raise ConvertError("%s exists already" % taken)
     order = sorted(processes, key=lambda key: (key[0] != first, key))
-    last_image = max((key for key in processes if key[0] == first), default=None)
+    last_images = dict(sorted(processes))
     summaries = [LiveSummary(processes[key], paths[key], copied[key]) for key in order]
     for summary in summaries:
-        summary.settle(running, ended_by if summary.process.key == last_image else 0)
+        pid, image = summary.process.key
+        summary.settle(running, ends.get(pid) if image == last_images[pid] else None)
         if summary.events:
             is_json = path.endswith(".json")
             summary.report = report_of(recording, summary.process, question, not summary.open, is_json, False)

@@ -95,17 +95,25 @@ void *pages_new_wiped(size_t bytes)
     return pages;
 }
 
+/* Makes a new file that its owner may read and write, whatever the program's umask is. Until then it is empty. */
+static int file_new(const char *path)
+{
+    int file = open(path, O_RDWR | O_CREAT | O_EXCL | O_CLOEXEC | O_NOFOLLOW, 0600);
+    if (file >= 0)
+        fchmod(file, 0600);
+    return file;
+}
+
 /* Opens a new file of this process: in the recording's directory, or, where the user that this process became may not
  * make files there, in the directory that was made for that user. */
 static int extent_open(char *path, size_t size, uint64_t image, uint64_t number)
 {
     unsigned long long pid = process.pid, images = image, numbers = number;
-    int flags = O_RDWR | O_CREAT | O_EXCL | O_CLOEXEC | O_NOFOLLOW;
     snprintf(path, size, "%s/%llu.%llu.%llu", process.directory, pid, images, numbers);
-    int file = open(path, flags, 0600);
+    int file = file_new(path);
     if (file < 0 && errno == EACCES) {
         snprintf(path, size, "%s/u%u/%llu.%llu.%llu", process.directory, (unsigned)geteuid(), pid, images, numbers);
-        file = open(path, flags, 0600);
+        file = file_new(path);
     }
     return file;
 }
@@ -126,7 +134,7 @@ static int file_fill(int file, uint64_t bytes)
 
 void *file_map(const char *path, uint64_t bytes)
 {
-    int file = open(path, O_RDWR | O_CREAT | O_EXCL | O_CLOEXEC | O_NOFOLLOW, 0600);
+    int file = file_new(path);
     void *pages = MAP_FAILED;
     if (file >= 0 && file_fill(file, bytes))
         pages = mmap(NULL, bytes, PROT_READ | PROT_WRITE, MAP_SHARED, file, 0);
@@ -338,6 +346,8 @@ static int process_describe(const struct process *parent)
     record_done(start);
     process.losses = record_new(RECORD_LOSSES, sizeof *process.losses);
     record_done(process.losses);
+    process.end = record_new(RECORD_END, sizeof *process.end);
+    record_done(process.end);
     return 1;
 }
 
@@ -430,7 +440,8 @@ void user_directory(uid_t user)
         return;
     int error = errno;
     snprintf(path, sizeof path, "%s/u%u", process.directory, (unsigned)user);
-    if (chmod(process.directory, 0711) == 0 && mkdir(path, 0700) == 0 && chown(path, user, (gid_t)-1) != 0)
+    if (chmod(process.directory, 0711) == 0 && mkdir(path, 0700) == 0 &&
+        (chmod(path, 0700) != 0 || chown(path, user, (gid_t)-1) != 0))
         rmdir(path);
     errno = error;
 }
@@ -499,8 +510,10 @@ int process_ready(void)
         if (!real_find())
             return 0;
         in_slow_part = 1;
+        unwinder_start();
         process_start(NULL);
         fork_handlers_set();
+        endings_start();
         in_slow_part = 0;
         errno = error;
     }

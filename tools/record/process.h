@@ -13,6 +13,9 @@
 /* Whether this process is recorded; begins its files if it has none yet. */
 int process_ready(void);
 
+/* Sees to it that the end of this process is marked in its file. */
+void endings_start(void);
+
 /* Before this process becomes that user. */
 void user_directory(uid_t user);
 
@@ -28,8 +31,9 @@ void number_note(enum record_kind kind, uint64_t number);
 /* Pages that are zero in a forked child. */
 void *pages_new_wiped(size_t bytes);
 
-/* Whether the address lies in the C++ library. Called between slow_enter and slow_leave. */
-int in_wrapper_module(uint64_t address);
+/* Whether a thread's start routine is one of the C++ library, which runs the object that it is given. Called between
+ * slow_enter and slow_leave. */
+int runs_object(uint64_t routine);
 
 /* After a library may have gone: ends what is known of those that have. */
 void modules_check(void);
@@ -37,6 +41,9 @@ void modules_check(void);
 /* Ends the locks in this range of memory; `_inside` between slow_enter and slow_leave. */
 void memory_end(uintptr_t start, uintptr_t end);
 void memory_end_inside(uintptr_t start, uintptr_t end);
+
+/* Makes the recorder's unwinder ready. Called between slow_enter and slow_leave. */
+void unwinder_start(void);
 
 /* Whether the address lies in the compiler's own library. Called between slow_enter and slow_leave. */
 int in_compiler_module(uint64_t address);

@@ -63,6 +63,14 @@ typedef const struct timespec *deadline_t;
     X(int, seteuid, (uid_t)) \
     X(int, setreuid, (uid_t, uid_t)) \
     X(int, setresuid, (uid_t, uid_t, uid_t)) \
+    X(void, _exit, (int)) \
+    X(void, _Exit, (int)) \
+    X(int, daemon, (int, int)) \
+    X(int, execve, (const char *, char *const[], char *const[])) \
+    X(int, execv, (const char *, char *const[])) \
+    X(int, execvp, (const char *, char *const[])) \
+    X(int, execvpe, (const char *, char *const[], char *const[])) \
+    X(int, fexecve, (int, char *const[], char *const[])) \
     X(int, pthread_once, (pthread_once_t *, void (*)(void))) \
     X(void, call_once, (once_flag *, void (*)(void)))
 

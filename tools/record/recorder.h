@@ -90,6 +90,8 @@ struct process {
     unsigned frames;
     struct process_record *record;
     struct losses_record *losses;
+    struct end_record *end;
+    uint64_t *inherited; /* as bits: the parent's locks that were looked at (inherited.c) */
     char directory[3000];
 } __attribute__((aligned(4096))); /* on pages of its own, which the kernel empties in a forked child */
 
@@ -399,6 +401,9 @@ static inline int has_callers(const struct callers *callers, uintptr_t stack)
 #define CALLER (uintptr_t) __builtin_return_address(0), (uintptr_t)__builtin_dwarf_cfa()
 #define CALLER_SITE() site_number(CALLER)
 
+/* In a forked child: before the first call with a lock that its parent had. */
+void inherited_check(struct thread *thread, const void *address, enum lock_class class);
+
 uint64_t call_word_slow(struct thread *thread, const void *address, enum lock_class class, uintptr_t return_address,
                         uintptr_t stack);
 
@@ -429,6 +434,8 @@ call_word(struct thread *thread, const void *address, enum lock_class class, uin
         if (likely(known->word == word))
             return word;
     }
+    if (unlikely(process.record->first_lock > 1))
+        inherited_check(thread, address, class);
     return call_word_slow(thread, address, class, return_address, stack);
 }
 

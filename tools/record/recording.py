@@ -162,16 +162,28 @@ def rmdir_if_empty(path):
 
 def is_extent(path, owners):
     """Whether this is a regular file of one of these users that begins as a recorded process's. A pipe or a link in its
-    place isn't waited for or followed."""
+    place isn't waited for or followed. One of theirs that can't be opened is an error, as its events would be missing.
+    """
     try:
         descriptor = os.open(path, os.O_RDONLY | os.O_NOFOLLOW | os.O_NONBLOCK | os.O_CLOEXEC)
-    except OSError:
+    except OSError as error:
+        if holds_something(path, owners):
+            raise OSError("%s can't be read: %s" % (path, error.strerror))
         return False
     try:
         status = os.fstat(descriptor)
         return stat.S_ISREG(status.st_mode) and status.st_uid in owners and os.pread(descriptor, 4, 0) in MAGICS
     finally:
         os.close(descriptor)
+
+
+def holds_something(path, owners):
+    """Whether this is a regular file of one of these users that isn't empty, as each is while it is made (process.c)."""
+    try:
+        status = os.lstat(path)
+    except OSError:
+        return False
+    return stat.S_ISREG(status.st_mode) and status.st_uid in owners and status.st_size > 0
 
 
 def maps_file(process, token):

@@ -85,9 +85,12 @@ static int is_thread_wrapper(const char *rest)
            strncmp(rest, "15_M_start_thread", 17) == 0;
 }
 
+/* What the C++ library's threads begin with. */
+#define THREAD_ROUTINE "execute_native_thread_routine"
+
 static int is_wrapper_name(const char *symbol)
 {
-    if (strncmp(symbol, "_ZL", 3) == 0 && strstr(symbol, "__gthread_"))
+    if ((strncmp(symbol, "_ZL", 3) == 0 && strstr(symbol, "__gthread_")) || strcmp(symbol, THREAD_ROUTINE) == 0)
         return 1;
     const char *at = symbol;
     if (strncmp(at, "_ZN", 3) == 0)
@@ -148,9 +151,9 @@ static const ElfW(Shdr) * symbol_table(const char *file, size_t size)
     return NULL;
 }
 
-static void module_find_wrappers(struct module *module)
+static void module_find_wrappers(struct module *module, const char *path)
 {
-    int file = open(module->path, O_RDONLY | O_CLOEXEC);
+    int file = open(path, O_RDONLY | O_CLOEXEC);
     struct stat status;
     if (file < 0)
         return;
@@ -212,17 +215,19 @@ static void module_add(struct dl_phdr_info *info, uintptr_t start, uintptr_t end
     module->bias = info->dlpi_addr;
     module->start = start;
     module->end = end;
-    if (info->dlpi_name && info->dlpi_name[0]) {
+    static const char program[] = "/proc/self/exe"; /* is there also where the file was deleted */
+    int is_program = !info->dlpi_name || !info->dlpi_name[0];
+    if (!is_program) {
         snprintf(module->path, sizeof module->path, "%s", info->dlpi_name);
     } else {
-        ssize_t length = readlink("/proc/self/exe", module->path, sizeof module->path - 1);
+        ssize_t length = readlink(program, module->path, sizeof module->path - 1);
         module->path[length > 0 ? length : 0] = 0;
     }
     const char *base = strrchr(module->path, '/');
     base = base ? base + 1 : module->path;
     module->all_wrappers = strncmp(base, "libstdc++.so", 12) == 0 || strncmp(base, "libc++.so", 9) == 0;
     if (!module->all_wrappers)
-        module_find_wrappers(module);
+        module_find_wrappers(module, is_program ? program : module->path);
     module->present = 1;
     modules[module_count++] = module;
 }
@@ -332,10 +337,10 @@ void modules_check(void)
     slow_leave(&state);
 }
 
-int in_wrapper_module(uint64_t address)
+/* Also where that library is linked into the program: no other wrapper there is a start routine. */
+int runs_object(uint64_t routine)
 {
-    struct module *module = module_known(address);
-    return module && module->all_wrappers;
+    return module_known(routine) && is_wrapper(routine + 1);
 }
 
 /* --- Walking ---------------------------------------------------------------------------------------------- */
@@ -370,6 +375,20 @@ static void walk_from(struct walk *walk, uintptr_t return_address)
     walk->count = 0;
     walk->interrupted = 0;
     _Unwind_Backtrace(walk_step, walk);
+}
+
+static _Unwind_Reason_Code walk_stop(struct _Unwind_Context *context, void *unused)
+{
+    (void)context, (void)unused;
+    return _URC_END_OF_STACK;
+}
+
+/* The recorder has an unwinder of its own, which is ready after its first walk. Were it not, a thread that is
+ * cancelled, or an exception, could not go past a wrapper that has something to do then: the program would be aborted.
+ */
+void unwinder_start(void)
+{
+    _Unwind_Backtrace(walk_stop, NULL);
 }
 
 /* --- Sites ------------------------------------------------------------------------------------------------ */

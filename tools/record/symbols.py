@@ -110,6 +110,7 @@ class Module:
 
     def __init__(self, path):
         self.path = path
+        self.file = path  # by which it is read: another one where its own is gone
         self.name = os.path.basename(path) or "?"
         self.symbols = None
         self.starts = None
@@ -121,7 +122,7 @@ class Module:
             return
         self.symbols = []
         try:
-            with open(self.path, "rb") as file:
+            with open(self.file, "rb") as file:
                 data = file.read()
             sections = read_sections(data)
             symbols = read_symbols(data, sections, SHT_SYMTAB)
@@ -160,13 +161,13 @@ class Module:
     def lines_of(self, addresses):
         """For each address the list of (function, path, line) of the calls inlined there, the innermost first."""
         asked = sorted(set(addresses) - self.lines.keys())
-        if asked and os.path.isfile(self.path):
+        if asked and os.path.isfile(self.file):
             self.lines.update(dict.fromkeys(asked, ()))
             self.lines.update(self.lines_found(["0x%x" % address for address in asked]))
         return self.lines
 
     def lines_found(self, asked):
-        output = run_tool("addr2line", ["-e", self.path, "-i", "-f", "-a"], asked)
+        output = run_tool("addr2line", ["-e", self.file, "-i", "-f", "-a"], asked)
         found = {}
         frames = None
         function = None

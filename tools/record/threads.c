@@ -71,7 +71,7 @@ static void object_copy(uint64_t *words, const void *object)
 
 static struct thread_record *thread_record_new(uint64_t parent, uint64_t child, uint64_t routine, void *argument)
 {
-    int object = argument && in_wrapper_module(routine); /* may write records itself */
+    int object = argument && runs_object(routine); /* may write records itself */
     struct thread_record *record = record_new(RECORD_THREAD, sizeof *record);
     if (!record)
         return NULL;
@@ -383,37 +383,54 @@ static void join_write(struct thread *thread, uint64_t number, uint32_t site, in
     words_keep(thread);
 }
 
-#define JOIN(handle, success, call) \
+/* Also where the thread is cancelled in the join. */
+static void join_leave(struct thread_record **record)
+{
+    if (*record)
+        __atomic_store_n(&(*record)->joins, 0, __ATOMIC_RELEASE);
+}
+
+/* Tells who looks at the process that the thread waits for another one's end: for ever, or, if `limited`, not so. */
+static struct thread_record *join_enter(struct thread *thread, uint64_t number, uint32_t site, int limited)
+{
+    if (limited || number == 0)
+        return NULL;
+    __atomic_store_n(&thread->record->joins, event_word(EVENT_JOIN, site, (uint32_t)(number - 1)), __ATOMIC_RELEASE);
+    return thread->record;
+}
+
+#define JOIN(handle, success, limited, call) \
     struct thread *thread = recording_thread(); \
     if (!thread) \
         return call; \
     uint32_t site = CALLER_SITE(); \
     uint64_t number = joined_number((pthread_t)(handle)); \
+    struct thread_record *joining __attribute__((cleanup(join_leave))) = join_enter(thread, number, site, limited); \
     int result = call; \
     join_write(thread, number, site, result == (success)); \
     return result
 
 EXPORTED int pthread_join(pthread_t handle, void **value)
 {
-    JOIN(handle, 0, real.pthread_join(handle, value));
+    JOIN(handle, 0, 0, real.pthread_join(handle, value));
 }
 
 EXPORTED int pthread_tryjoin_np(pthread_t handle, void **value)
 {
-    JOIN(handle, 0, real.pthread_tryjoin_np(handle, value));
+    JOIN(handle, 0, 1, real.pthread_tryjoin_np(handle, value));
 }
 
 EXPORTED int pthread_timedjoin_np(pthread_t handle, void **value, deadline_t deadline)
 {
-    JOIN(handle, 0, real.pthread_timedjoin_np(handle, value, deadline));
+    JOIN(handle, 0, deadline != NULL, real.pthread_timedjoin_np(handle, value, deadline));
 }
 
 EXPORTED int pthread_clockjoin_np(pthread_t handle, void **value, clockid_t clock, deadline_t deadline)
 {
-    JOIN(handle, 0, real.pthread_clockjoin_np(handle, value, clock, deadline));
+    JOIN(handle, 0, deadline != NULL, real.pthread_clockjoin_np(handle, value, clock, deadline));
 }
 
 EXPORTED int thrd_join(thrd_t handle, int *value)
 {
-    JOIN(handle, thrd_success, real.thrd_join(handle, value));
+    JOIN(handle, thrd_success, 0, real.thrd_join(handle, value));
 }

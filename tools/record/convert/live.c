@@ -10,8 +10,9 @@
  *
  * It answers, for each process: the number of chunks of tables, each: order, extent, offset of the chunk; the number of
  * chunks of events, each: thread, offset in the copy, number of words; a hash of the events that stay, which changes
- * with each that is news; the number of threads that wait for each other, each: thread, the word of the acquire that
- * waits, the thread that has the lock, whether that one has ended, and two numbers that tell how far the thread is.
+ * with each that is news; the number of threads that wait for each other, each: thread, the word of the acquire or join
+ * that waits, the thread that has the lock or is joined, whether that one has ended (2: it is a thread of the parent,
+ * that held the lock at the fork), and two numbers that tell how far the thread is.
  * That of `report`:
  *
  *     number of files;   a text each: the path
@@ -27,6 +28,7 @@
  */
 #define _GNU_SOURCE
 #include <stdbool.h>
+#include <stddef.h>
 #include <sys/mman.h>
 
 #include "goodlock.h"
@@ -135,6 +137,7 @@ struct recorded {
     const struct thread_record **threads;
     uint64_t thread_count;
     struct locks ended, owner_died; /* threads that ended and held locks; locks that were taken from such */
+    struct locks left;              /* locks that a thread of the parent held at the fork */
 };
 
 static void row_add(struct row *row, struct place place)
@@ -202,12 +205,14 @@ static void record_note(struct recorded *recorded, const uint64_t *record, uint6
     uint32_t kind = (uint32_t)*record;
     if (size < 2 || record[1] > UINT32_MAX)
         return;
-    if (kind == RECORD_THREAD && size * 8 >= sizeof(struct thread_record))
+    if (kind == RECORD_THREAD && size * 8 >= offsetof(struct thread_record, joins))
         thread_note(recorded, (const struct thread_record *)record);
     else if (kind == RECORD_ENDED)
         locks_add(&recorded->ended, record[1]);
     else if (kind == RECORD_OWNER_DIED)
         locks_add(&recorded->owner_died, record[1]);
+    else if (kind == RECORD_LEFT_LOCKED)
+        locks_add(&recorded->left, record[1]);
 }
 
 /* The threads' records. Each was in its table before its thread had a chunk. */
@@ -261,6 +266,14 @@ struct progress {
     uint64_t stored, gone;
 };
 
+/* The join that a thread waits in; 0: none. */
+static uint64_t joins_of(const struct thread_record *record)
+{
+    int has_joins = record && (*(const uint64_t *)record >> 32) * 8 >= sizeof *record;
+    uint64_t word = has_joins ? __atomic_load_n(&record->joins, __ATOMIC_ACQUIRE) : 0;
+    return word % KINDS == EVENT_JOIN ? word : 0;
+}
+
 /* Copies the words of a thread's latest chunk as they were at one moment; how many. The words in front stay for ever;
  * those behind may be taken back and stored anew meanwhile, which the version tells: then they are read again. Should
  * that not end, what stays is the copy. `stay`: how many of the words stay. */
@@ -309,12 +322,22 @@ struct waits {
     struct locks strays;     /* that some thread released which didn't hold it: so nobody knows who has it */
     struct locks ended;      /* threads that never release what they hold, and don't wait */
     struct locks owner_died; /* locks that are taken though a thread has ended that held them */
+    struct locks left, used; /* locks that a thread of the parent held at the fork; those that were had since */
 };
 
-static void waits_add(struct waits *waits, const struct holding *holding, uint32_t thread,
+/* A thread of the parent, which is none of this process. */
+#define NOBODY UINT32_MAX
+
+static int never_releases(const struct waits *waits, uint32_t thread)
+{
+    return thread == NOBODY || locks_have(&waits->ended, thread);
+}
+
+/* `joins`: the join that the thread waits in, which comes after all that it did before. */
+static void waits_add(struct waits *waits, const struct holding *holding, uint32_t thread, uint64_t joins,
                       const struct progress *progress)
 {
-    uint64_t last = locks_have(&waits->ended, thread) ? 0 : holding->last;
+    uint64_t last = locks_have(&waits->ended, thread) ? 0 : joins ? joins : holding->last;
     uint32_t wanted = (uint32_t)(last >> OBJECT_SHIFT);
     unsigned kind = last % KINDS;
     for (unsigned i = 0; i < holding->count; i++) {
@@ -343,14 +366,29 @@ static struct wait *wait_of(struct waits *waits, uint32_t thread)
     return NULL;
 }
 
+/* Whether the thread that this one joins waits itself. One that has ended is joined at once. */
+static int join_is_kept_up(struct waits *waits, struct wait *wait)
+{
+    wait->on = (uint32_t)(wait->word >> OBJECT_SHIFT);
+    struct wait *other = wait_of(waits, wait->on);
+    return other && other->stays;
+}
+
 /* A thread that has what this one waits for, and waits itself or has ended; whether there is one. */
 static int wait_is_kept_up(struct waits *waits, struct wait *wait)
 {
     unsigned kind = wait->word % KINDS;
+    if (kind == EVENT_JOIN)
+        return join_is_kept_up(waits, wait);
     int itself = kind == EVENT_AGAIN || kind == EVENT_UPGRADE;
+    uint32_t lock = (uint32_t)(wait->word >> OBJECT_SHIFT);
+    if (locks_have(&waits->left, lock) && !locks_have(&waits->used, lock)) {
+        wait->on = NOBODY;
+        return 1;
+    }
     for (size_t i = 0; i < waits->hold_count; i++) {
         const struct hold *hold = &waits->holds[i];
-        if (hold->lock != (uint32_t)(wait->word >> OBJECT_SHIFT) || (hold->thread == wait->thread) != itself)
+        if (hold->lock != lock || (hold->thread == wait->thread) != itself)
             continue;
         int has_ended = locks_have(&waits->ended, hold->thread);
         if (locks_have(&waits->strays, hold->lock) || (has_ended && locks_have(&waits->owner_died, hold->lock)))
@@ -383,7 +421,7 @@ static void waits_settle(struct waits *waits)
 /* Where the waits lead to from this one: to one of a round, or to one for a thread that has ended. */
 static struct wait *wait_end(struct waits *waits, struct wait *wait)
 {
-    for (size_t i = 0; i < waits->wait_count && !locks_have(&waits->ended, wait->on); i++)
+    for (size_t i = 0; i < waits->wait_count && !never_releases(waits, wait->on); i++)
         wait = wait_of(waits, wait->on);
     return wait;
 }
@@ -409,7 +447,7 @@ static struct wait *round_start(struct waits *waits)
         if (!waits->waits[i].stays)
             continue;
         struct wait *end = wait_end(waits, &waits->waits[i]);
-        if (!locks_have(&waits->ended, end->on))
+        if (!never_releases(waits, end->on))
             return round_first(waits, end);
         if (!first || end->thread < first->thread)
             first = end;
@@ -427,7 +465,7 @@ static void waits_put(struct waits *waits)
         count++;
     output_put((const char *)&count, sizeof count);
     for (struct wait *wait = first; count > 0; count--, wait = wait_of(waits, wait->on)) {
-        uint64_t has_ended = (uint64_t)locks_have(&waits->ended, wait->on);
+        uint64_t has_ended = wait->on == NOBODY ? 2 : (uint64_t)locks_have(&waits->ended, wait->on);
         uint64_t answer[] = {wait->thread, wait->word, wait->on, has_ended, wait->progress.stored, wait->progress.gone};
         output_put((const char *)answer, sizeof answer);
     }
@@ -462,8 +500,27 @@ struct copied {
     uint64_t room;
     struct holding holding; /* and how far it is: of the present thread */
     struct progress progress;
+    uint64_t before; /* the present thread's latest word, where a lock was left locked */
     struct waits waits;
 };
+
+/* Which of the locks that were left locked some thread had all the same, as that of the parent's held it no longer: all
+ * that have an event, but for an acquire that is the last one of its thread. */
+static void uses_note(struct copied *copied, uint64_t count, int is_last)
+{
+    uint64_t *before = &copied->before;
+    for (uint64_t at = 0; at < count && copied->waits.left.words > 0; at++) {
+        if (*before && copied->words[at] && !is_of_thread(*before))
+            locks_add(&copied->waits.used, *before >> OBJECT_SHIFT);
+        if (copied->words[at])
+            *before = copied->words[at];
+    }
+    unsigned kind = *before % KINDS;
+    if (is_last && *before && !is_of_thread(*before) && kind != EVENT_ACQUIRE && kind != EVENT_SHARED_ACQUIRE)
+        locks_add(&copied->waits.used, *before >> OBJECT_SHIFT);
+    if (is_last)
+        *before = 0;
+}
 
 static void chunk_copy(const struct recorded *recorded, size_t i, struct copied *copied)
 {
@@ -478,6 +535,7 @@ static void chunk_copy(const struct recorded *recorded, size_t i, struct copied 
     copy_put(copied->words, count);
     uint64_t answer[] = {thread, offset, count};
     output_put((const char *)answer, sizeof answer);
+    uses_note(copied, count, is_last);
     for (uint64_t at = 0; at < count; at++) {
         if (at < stay || !is_last)
             copied->hash = hash_step(copied->hash, copied->words[at]);
@@ -489,7 +547,7 @@ static void chunk_copy(const struct recorded *recorded, size_t i, struct copied 
     copied->hash = hash_step(copied->hash, (uint64_t)thread << 32 | stay);
     copied->progress.stored += count;
     if (is_last) {
-        waits_add(&copied->waits, &copied->holding, thread, &copied->progress);
+        waits_add(&copied->waits, &copied->holding, thread, joins_of(record), &copied->progress);
         memset(&copied->holding, 0, sizeof copied->holding);
         memset(&copied->progress, 0, sizeof copied->progress);
     }
@@ -508,6 +566,7 @@ static void process_copy(struct request *request)
     tables_put(&recorded);
     copied.waits.ended = recorded.ended;
     copied.waits.owner_died = recorded.owner_died;
+    copied.waits.left = recorded.left;
     if (recorded.events.count > 0)
         qsort(recorded.events.places, recorded.events.count, sizeof *recorded.events.places, by_thread);
     uint64_t count = recorded.events.count;
@@ -525,6 +584,8 @@ static void process_copy(struct request *request)
     free(copied.waits.strays.bits);
     free(copied.waits.ended.bits);
     free(copied.waits.owner_died.bits);
+    free(copied.waits.left.bits);
+    free(copied.waits.used.bits);
 }
 
 static void copy_all(struct request *request, const char *path)

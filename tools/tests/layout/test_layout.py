@@ -46,8 +46,9 @@ PYTHON = {
     / "convert.py": {
         **COMMON,
         **SHIFTS,
-        **records("PROCESS", "MODULE", "SITE", "LOCK", "THREAD", "START", "UNLOADED", "LOSSES", *NAMED),
-        **events("UPGRADE", "BEYOND", "AGAIN"),
+        **records("PROCESS", "MODULE", "SITE", "LOCK", "THREAD", "START", "UNLOADED", "LOSSES", "END", *NAMED),
+        **same("END_UNKNOWN", "END_EXIT", "END_EXEC"),
+        **events("JOIN", "UPGRADE", "BEYOND", "AGAIN"),
         **same("LOCK_MADE", "HELD_LIMIT"),
         "SITE_MASK": "SITE_LIMIT - 1",
         "KINDS": KINDS,

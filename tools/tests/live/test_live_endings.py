@@ -32,7 +32,7 @@ def test_killed_recorder():
     end(live.program)
     said = report_later(directory, "later.json")
     assert cycles_in(read_report("later.json")) == ORDERS, said
-    assert "so far, as the process still runs" not in said and "; settled" in said, said
+    assert "; so far, as it isn't known how the process ended\n" in said and "; settled" not in said, said
     assert not os.path.exists(directory), "the directory is still there"
 
 
@@ -105,6 +105,7 @@ def test_wrong_arguments(words):
         ("--live --max -1", "--max takes a number from 1 to 100000"),
         ("--live --max " + "9" * 5000, "--max takes a number from 1 to 100000"),
         ("--frames \u00b2", "--frames takes a number from 1 to 16"),
+        ("--frames \uff13", "--frames takes a number from 1 to 16"),
         ("--live --mode all", "--mode takes basic, guarded or full"),
     ],
     ids=lambda text: text[:20],
@@ -115,6 +116,43 @@ def test_wrong_questions(words, said):
     done = subprocess.run(command, stdout=subprocess.PIPE, stderr=subprocess.PIPE)
     assert done.returncode == REFUSED and done.stdout == b"", done.stdout.decode()
     assert done.stderr.decode().splitlines()[0] == "goodlock-record: " + said, done.stderr.decode()
+
+
+@pytest.mark.parametrize(
+    "seconds",
+    [
+        "0",
+        "0.09",
+        "1000001",
+        "x",
+        "",
+        ".",
+        "1.2.3",
+        "-1",
+        "+1",
+        " 1",
+        "1_0",
+        "1e3",
+        "inf",
+        "nan",
+        "0x1",
+        "1,5",
+        "\u0663",
+    ],
+)
+def test_every_so_many_seconds(seconds):
+    """A plain decimal number: not all that Python takes for one."""
+    command = [RECORD, "-o", "r.json", "--live", "--every", seconds, "sh", "-c", "echo ran"]
+    done = subprocess.run(command, stdout=subprocess.PIPE, stderr=subprocess.PIPE)
+    assert done.returncode == REFUSED and done.stdout == b"", done.stdout.decode()
+    said = "goodlock-record: --every takes a number of seconds, as 2 or 0.5, from 0.1 to 1000000\n"
+    assert done.stderr.decode() == said, done.stderr.decode()
+
+
+@pytest.mark.parametrize("seconds", ["0.1", ".5", "2.", "010", "1000000"])
+def test_every_so_many_seconds_is_taken(seconds):
+    done = reported("./live", "churn", options=["--every", seconds])
+    assert done.status == 0, done.said
 
 
 @pytest.mark.parametrize("other", ["goodlock-python", "goodlock-java"])

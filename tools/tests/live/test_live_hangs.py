@@ -1,6 +1,7 @@
 """What counts as a hang: a circle of threads none of which did anything for half a second."""
 
 import os
+import shutil
 import signal
 import struct
 import sys
@@ -170,6 +171,78 @@ def test_first_thread_that_ended():
     live = Live("./live", "holder_ended", "2").is_ready()
     live.wait_for_words(" hangs: " + ENDED % ("main.1:one_way", FIRST, "main"))
     live.end(signal.SIGTERM)
+
+
+def place(mark):
+    return MARKS["live.c", mark]
+
+
+@pytest.mark.parametrize("what", ["deletes_itself", "hangs"], ids=["deleted", "replaced"])
+def test_program_whose_file_is_gone(what):
+    """It is read by way of the process, as long as that runs: of another file in its place nothing would be right."""
+    shutil.copy("live", "gone")
+    live = Live("./gone", what).is_ready()
+    if what == "hangs":
+        shutil.copy("locks", "other")
+        os.replace("other", "gone")
+    live.wait_for_words(" hangs: ")
+    wait = "main.1:holds waits for a at %s, which main.2:holds holds" % place("second_of_two")
+    assert " hangs: " + wait in live.says(), live.says()
+    live.end(signal.SIGTERM)
+
+
+@pytest.mark.parametrize("how", range(4), ids=["join", "timed", "clock", "c11"])
+def test_thread_that_joins_one_which_wants_its_lock(how):
+    """By each call that waits for ever. It is told in the words of other waits, with the place of the join."""
+    live = Live("./live", "joins", "%d" % how).is_ready()
+    live.wait_for_words(" hangs: ")
+    waits = [
+        "main.1:joins_holding waits for the end of main.1.1:takes_a at " + place("joins_%d" % how),
+        "main.1.1:takes_a waits for a at %s, which main.1:joins_holding holds" % place("takes_a"),
+    ]
+    assert live.says().endswith(" hangs: " + "; ".join(waits) + "\n"), live.says()
+    os.kill(live.program, signal.SIGKILL)
+    live.end()
+    assert " hung: " + "; ".join(waits) in live.said, live.said
+
+
+@pytest.mark.parametrize("how, lock, mark", [("0", "a", "inherits"), ("1", "shared_lock", "inherits_shared")])
+def test_lock_that_a_thread_of_the_parent_held_at_the_fork(how, lock, mark):
+    live = Live("./live", "inherits", how).is_ready()
+    live.wait_for_words(" hangs: ")
+    wait = "main waits for %s at %s, which a thread of its parent held at the fork\n" % (lock, place(mark))
+    assert live.says().endswith("process %d (./live inherits %s) hangs: %s" % (live.program, how, wait)), live.says()
+    os.kill(live.program, signal.SIGKILL)
+    live.end(status=0)
+    assert live.said.endswith(" hung: " + wait), live.said
+
+
+@pytest.mark.parametrize("how", ["2", "3", "4"], ids=["made_anew", "of_the_forking_thread", "of_both"])
+def test_locks_of_the_parent_that_a_child_gets(how):
+    """Each holds its lock for a while without an event, and the other one waits."""
+    done = reported("./live", "inherits", how)
+    assert done.status == 0 and done.said.count("; settled") == 2, done.said
+    assert " hangs: " not in done.said and " hung: " not in done.said, done.said
+
+
+def test_joins_in_a_row():
+    live = Live("./live", "joins_in_a_row").is_ready()
+    live.wait_for_words(" hangs: ")
+    waits = [
+        "main waits for the end of main.2:joins_another at " + place("joins_outer"),
+        "main.2:joins_another waits for the end of main.1:takes_a at " + place("joins_inner"),
+        "main.1:takes_a waits for a at %s, which main holds" % place("takes_a"),
+    ]
+    assert " hangs: " in live.says() and sorted(live.says().split(" hangs: ")[1].rstrip().split("; ")) == sorted(waits)
+    live.end(signal.SIGTERM)
+
+
+@pytest.mark.parametrize("how", [4, 5], ids=["deadline", "cancelled"])
+def test_join_that_ends(how):
+    """At its deadline, or as its thread is cancelled, which holds the lock for a while in its cleanup handler."""
+    done = reported("./live", "joins", "%d" % how)
+    assert done.status == 0 and "; settled" in done.said, done.said
+    assert " hangs: " not in done.said and " hung: " not in done.said, done.said
 
 
 def test_end_while_a_thread_waits_for_one_that_has_ended():

@@ -161,3 +161,28 @@ def test_recorded_by_both_recorders():
         assert len(file.readlines()) == MUTEXES, "the Python code's trace"
     assert "has CPython: the locks of Python code" in run.said and "tools/goodlock-python" in run.said, run.said
     assert any(name.startswith("t.std") for name in run.files()), "%s: %s" % (run.files(), run.said)
+
+
+HIDES = """
+import os, threading
+directory = os.environ["GOODLOCK_PYTHON_DIRECTORY"]
+lock = threading.Lock()
+os.umask(0o777)
+if os.fork() == 0:
+    with lock:
+        pass
+    os._exit(0)
+os.wait()
+with lock:
+    pass
+print([oct(os.stat(os.path.join(directory, name)).st_mode & 0o777) for name in os.listdir(directory) if "." in name])
+"""
+
+
+def test_files_under_any_umask():
+    """They are open to their owner, who reads them."""
+    with open("hides.py", "w") as file:
+        file.write(HIDES)
+    run = Run(PYTHON_RECORD, ["hides.py"], ["--python", INTERPRETER])
+    assert run.status == 0 and run.out.strip() == str(["0o600"] * 2), run.out + run.said
+    assert len(run.files()) == 2, str(run.files())

@@ -21,6 +21,8 @@ def programs(tmp_path_factory):
     build("gcc", C_FLAGS + ["-O1", "-o", "random", source("random.c")], folder)
     build("g++", C_FLAGS + ["-std=c++17", "-O0", "-o", "wrappers-O0", source("wrappers.cc")], folder)
     build("g++", C_FLAGS + ["-std=c++17", "-O2", "-o", "wrappers-O2", source("wrappers.cc")], folder)
+    flags = ["-std=c++17", "-O1", "-static-libstdc++", "-static-libgcc"]
+    build("g++", C_FLAGS + flags + ["-o", "wrappers-static", source("wrappers.cc")], folder)
     build("g++", C_FLAGS + ["-std=c++17", "-O0", "-o", "once", source("once.cc")], folder)
     build("gcc", C_FLAGS + ["-O1", "-o", "memory", source("memory.c"), "-ldl"], folder)
     for name, line in (("one", 100), ("two", 200)):

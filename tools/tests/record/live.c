@@ -6,6 +6,11 @@
 #include <stdio.h>
 #include <stdlib.h>
 #include <string.h>
+#include <sys/mman.h>
+#include <sys/syscall.h>
+#include <sys/wait.h>
+#include <threads.h>
+#include <time.h>
 #include <unistd.h>
 
 #include "turns.h"
@@ -90,7 +95,7 @@ static void *holds(void *order)
 {
     pthread_mutex_lock(order ? &a : &b);
     pthread_barrier_wait(&each_holds_one);
-    pthread_mutex_lock(order ? &b : &a);
+    pthread_mutex_lock(order ? &b : &a); /* @second_of_two */
     return NULL;
 }
 
@@ -189,6 +194,158 @@ static void hangs(void)
     if (fgets(line, sizeof line, stdin))
         pthread_create(&threads[2], NULL, other_way, NULL);
     pause();
+}
+
+static pthread_t joined;
+
+static void *takes_a(void *unused)
+{
+    pthread_mutex_lock(&a); /* @takes_a */
+    pthread_mutex_unlock(&a);
+    return unused;
+}
+
+static void unlocks_later(void *lock)
+{
+    sleep(2);
+    pthread_mutex_unlock(lock);
+}
+
+/* How a thread joins another one, which waits for the lock that it holds. The first ones wait for ever, the last ones don't. */
+enum { PLAINLY, WITHOUT_DEADLINE, BY_A_CLOCK_WITHOUT_DEADLINE, BY_C11, WITH_DEADLINE, CANCELLED };
+
+static void *joins_holding(void *unused)
+{
+    struct timespec deadline;
+    pthread_mutex_lock(&a);
+    pthread_cleanup_push(unlocks_later, &a);
+    pthread_create(&joined, NULL, takes_a, NULL);
+    clock_gettime(CLOCK_REALTIME, &deadline);
+    deadline.tv_sec += 2;
+    switch (number) {
+    case PLAINLY: case CANCELLED: pthread_join(joined, NULL); break; /* @joins_0 */
+    case WITHOUT_DEADLINE: pthread_timedjoin_np(joined, NULL, NULL); break; /* @joins_1 */
+    case BY_A_CLOCK_WITHOUT_DEADLINE: pthread_clockjoin_np(joined, NULL, CLOCK_MONOTONIC, NULL); break; /* @joins_2 */
+    case BY_C11: thrd_join(joined, NULL); break; /* @joins_3 */
+    case WITH_DEADLINE: pthread_timedjoin_np(joined, NULL, &deadline); break;
+    }
+    pthread_cleanup_pop(1);
+    return unused;
+}
+
+static void joins(void)
+{
+    pthread_t thread;
+    pthread_create(&thread, NULL, joins_holding, NULL);
+    wait_for_others();
+    if (number == CANCELLED)
+        pthread_cancel(thread);
+    else
+        say_ready();
+    pthread_join(thread, NULL);
+    if (number >= WITH_DEADLINE)
+        pthread_join(joined, NULL);
+}
+
+/* Main holds the lock that main.1 wants, and joins main.2, which joins main.1. */
+static void *joins_another(void *unused)
+{
+    pthread_join(joined, NULL); /* @joins_inner */
+    return unused;
+}
+
+static void joins_in_a_row(void)
+{
+    pthread_t thread;
+    pthread_mutex_lock(&a);
+    pthread_create(&joined, NULL, takes_a, NULL);
+    pthread_create(&thread, NULL, joins_another, NULL);
+    say_ready();
+    pthread_join(thread, NULL); /* @joins_outer */
+}
+
+static pthread_rwlock_t shared_lock = PTHREAD_RWLOCK_INITIALIZER;
+static pthread_mutex_t *between;
+
+/* What a child has of its parent's locks: those that a thread holds which it doesn't have, as a mutex and for writing; and those
+ * that it gets, as it makes them anew, as its own thread held them, or as they are those of both processes. */
+enum { MUTEX_OF_A_THREAD, WRITER, MADE_ANEW, OF_THE_FORKING_THREAD, OF_BOTH };
+
+static void *holds_for_a_while(void *unused)
+{
+    if (number == WRITER)
+        pthread_rwlock_wrlock(&shared_lock);
+    else
+        pthread_mutex_lock(between);
+    sleep(number <= WRITER ? 0 : 2);
+    if (number <= WRITER)
+        pause();
+    pthread_mutex_unlock(between);
+    return unused;
+}
+
+static void makes_anew(void)
+{
+    pthread_mutex_init(&a, NULL);
+}
+
+static void *takes_it(void *unused)
+{
+    if (number == WRITER) {
+        pthread_rwlock_rdlock(&shared_lock); /* @inherits_shared */
+        return unused;
+    }
+    pthread_mutex_lock(between); /* @inherits */
+    sleep(2);
+    pthread_mutex_unlock(between);
+    return unused;
+}
+
+static void in_the_child(void)
+{
+    pthread_t thread;
+    say_ready();
+    if (number != OF_THE_FORKING_THREAD) {
+        takes_it(NULL);
+        return;
+    }
+    pthread_create(&thread, NULL, takes_it, NULL);
+    sleep(2);
+    pthread_mutex_unlock(between);
+    pthread_join(thread, NULL);
+}
+
+static void inherits(void)
+{
+    pthread_t thread;
+    pthread_mutexattr_t of_both;
+    between = number == OF_BOTH ? mmap(NULL, 4096, PROT_READ | PROT_WRITE, MAP_SHARED | MAP_ANONYMOUS, -1, 0) : &a;
+    if (number == OF_BOTH) {
+        pthread_mutexattr_init(&of_both);
+        pthread_mutexattr_setpshared(&of_both, PTHREAD_PROCESS_SHARED);
+        pthread_mutex_init(between, &of_both);
+    }
+    if (number == MADE_ANEW)
+        pthread_atfork(NULL, NULL, makes_anew);
+    if (number == OF_THE_FORKING_THREAD)
+        pthread_mutex_lock(between);
+    else
+        pthread_create(&thread, NULL, holds_for_a_while, NULL);
+    wait_for_others();
+    if (fork() == 0) {
+        in_the_child();
+        _exit(0);
+    }
+    wait(NULL);
+}
+
+static const char *own_file;
+
+/* Hangs, and its file is gone before the first event. */
+static void deletes_itself(void)
+{
+    unlink(own_file);
+    hangs();
 }
 
 /* So many threads one after the other, each with its own lock and the next one's. */
@@ -322,6 +479,48 @@ static void killed(void)
     raise(SIGKILL);
 }
 
+/* The ways in which a process ends, in the order of test_live_ends.py. */
+enum {
+    RETURNS, EXITS, EXITS_AT_ONCE, EXITS_BY_C, EXITS_QUICKLY, LAST_THREAD_ENDS, EXECUTES, EXECUTES_BY_WORDS, BECOMES_A_DAEMON,
+    EXITS_BY_NUMBER, IS_KILLED, ABORTS, FAILS_TO_EXECUTE, LENDS_ITS_MEMORY
+};
+
+static void end_somehow(void)
+{
+    char *const arguments[] = {"true", NULL};
+    switch (number) {
+    case EXITS: exit(3);
+    case EXITS_AT_ONCE: _exit(3);
+    case EXITS_BY_C: _Exit(3);
+    case EXITS_QUICKLY: quick_exit(3);
+    case LAST_THREAD_ENDS: pthread_exit(NULL);
+    case EXECUTES: execv("/bin/true", arguments); break;
+    case EXECUTES_BY_WORDS: execle("/bin/sh", "sh", "-c", "test $0$way = 12 || kill -9 $$", "1", NULL, (char *[]){"way=2", NULL}); break;
+    case BECOMES_A_DAEMON: if (daemon(1, 1)) raise(SIGKILL); both(&gate, &b); break;
+    case EXITS_BY_NUMBER: syscall(SYS_exit_group, 3); break;
+    case IS_KILLED: raise(SIGKILL); break;
+    case ABORTS: abort();
+    case FAILS_TO_EXECUTE: execv("/nowhere", arguments); raise(SIGKILL); break;
+    case LENDS_ITS_MEMORY: if (vfork() == 0) _exit(3); raise(SIGKILL); break;
+    }
+}
+
+static void ends(void)
+{
+    in_turn(one_way, other_way);
+    end_somehow();
+}
+
+/* A child of it ends so, and it waits for that. */
+static void child_ends(void)
+{
+    both(&a, &b);
+    if (fork() == 0)
+        ends();
+    else
+        wait(NULL);
+}
+
 /* Random events. Against the order of the locks one is only tried, so that no run hangs. */
 static void *random_thread(void *seed)
 {
@@ -374,8 +573,9 @@ int main(int count, char **arguments)
     } programs[] = {
         {"waits", waits}, {"goes_on", goes_on}, {"comes_later", comes_later}, {"gates", gates}, {"churn", churn},
         {"own_signal", own_signal}, {"forks", forks}, {"repeats", repeats}, {"killed", killed}, {"races", races},
-        {"hangs", hangs}, {"holder_ended", holder_ended}, {"owner_died", owner_died}, {"ring", ring}, {"churn_and_gates", churn_and_gates},
+        {"hangs", hangs}, {"holder_ended", holder_ended}, {"owner_died", owner_died}, {"ring", ring}, {"deletes_itself", deletes_itself}, {"inherits", inherits}, {"joins", joins}, {"joins_in_a_row", joins_in_a_row}, {"ends", ends}, {"child_ends", child_ends}, {"churn_and_gates", churn_and_gates},
     };
+    own_file = arguments[0];
     number = count > 2 ? atoi(arguments[2]) : 0;
     for (size_t i = 0; count > 1 && i < sizeof programs / sizeof programs[0]; i++)
         if (strcmp(programs[i].name, arguments[1]) == 0) {

@@ -9,6 +9,7 @@
 #include <stdio.h>
 #include <stdlib.h>
 #include <string.h>
+#include <sys/stat.h>
 #include <sys/syscall.h>
 #include <sys/time.h>
 #include <sys/wait.h>
@@ -735,6 +736,45 @@ static void gives_up_root(void)
     volume();
 }
 
+static void cancelled_here(void)
+{
+    sem_post(&step);
+    pause();
+}
+
+static pthread_once_t never_done = PTHREAD_ONCE_INIT;
+
+static void *runs_once(void *unused)
+{
+    pthread_once(&never_done, cancelled_here);                                /* @cancelled_once */
+    return unused;
+}
+
+/* A thread that is cancelled in what it runs once. */
+static void cancelled_in_once(void)
+{
+    pthread_t thread;
+    sem_init(&step, 0, 0);
+    pthread_create(&thread, NULL, runs_once, NULL);                            /* @cancelled_fork */
+    sem_wait(&step);
+    pthread_cancel(thread);
+    pthread_join(thread, NULL);                                                /* @cancelled_join */
+}
+
+/* What it makes is open to nobody; so is what its child makes. */
+static void hides_its_files(void)
+{
+    umask(0777);
+    MUST(chdir("/") == 0);
+    volume();
+    pid_t child = fork();
+    if (child == 0) {
+        one_pair();
+        _exit(0);
+    }
+    waitpid(child, NULL, 0);
+}
+
 /* As many locks as this, each taken once. */
 static void many_locks(void)
 {
@@ -825,6 +865,7 @@ static const struct {
     {"conditions", conditions}, {"cancel", cancel}, {"threads", threads}, {"two_makers", two_makers},
     {"racing", racing}, {"deadlock", deadlock}, {"aborts", aborts}, {"leaves_at_once", leaves_at_once},
     {"upgrade", upgrade}, {"again_plain", again_plain}, {"handed_over", handed_over}, {"beyond", beyond}, {"gives_up_root", gives_up_root},
+    {"hides_its_files", hides_its_files}, {"cancelled_in_once", cancelled_in_once},
     {"many_locks", many_locks}, {"waits_in_background", waits_in_background}, {"stray", stray}, {"keys", keys}, {"signals", signals}, {"signal_storm", signal_storm},
     {"repeats", repeats}, {"volume", volume}, {"volume_and_wait", volume_and_wait}, {"volume_and_thread", volume_and_thread},
     {"many_threads", many_threads}, {"forks", forks},

@@ -47,9 +47,11 @@ WRAPPERS = """
     main.3:user|rel(b)|@late_unlock"""
 
 
-@pytest.mark.parametrize("program", ["wrappers-O0", "wrappers-O2"], ids=["that_are_calls", "that_are_inlined"])
+@pytest.mark.parametrize(
+    "program", ["O0", "O2", "static"], ids=["that_are_calls", "that_are_inlined", "that_are_linked_in"]
+)
 def test_wrappers(program):
-    run = record("./" + program)
+    run = record("./wrappers-" + program)
     assert run.status == 0, run.said
     compare(run.lines(), known(WRAPPERS, "wrappers.cc"))
 

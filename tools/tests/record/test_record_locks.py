@@ -180,6 +180,18 @@ def test_cancelled_in_a_wait():
     )
 
 
+def test_cancelled_in_what_runs_once():
+    """The recorder gives the lock back for it, and the program goes on."""
+    expect(
+        "cancelled_in_once",
+        """
+        main|fork(main.1:runs_once)|@cancelled_fork
+        main|join(main.1:runs_once)|@cancelled_join
+        main.1:runs_once|acq(never_done)|@cancelled_once
+        main.1:runs_once|rel(never_done)|@cancelled_once""",
+    )
+
+
 def test_lock_in_a_table():
     run = expect(
         "table",

@@ -9,7 +9,7 @@ import tempfile
 import pytest
 from c_programs import end, has_ended, raw_directories, raw_directory
 from c_traces import PAIR, convert, known, record
-from known_traces import LIMIT, RECORD, compare, read_line, read_lines, start, wait_for
+from known_traces import LIMIT, RECORD, REFUSED, compare, read_line, read_lines, start, wait_for
 
 
 def test_forked_process():
@@ -228,6 +228,53 @@ def open_folder(folder, monkeypatch):
     yield
     monkeypatch.chdir(folder)
     shutil.rmtree(path)
+
+
+NOBODY = {"user": 65534, "group": 65534, "extra_groups": []}
+
+
+@pytest.fixture
+def folder_of_nobody(open_folder):
+    """The same, of a user for whom the modes of files count, and the recorder is built."""
+    if subprocess.run(["test", "-x", RECORD], **NOBODY).returncode != 0:
+        pytest.skip("not everybody may go to the recorder")
+    for options in ([], ["--live"]):
+        assert record("./locks", "table", options=options).status == 0
+        os.unlink("t.std")
+    os.chown(".", 65534, 65534)
+
+
+@pytest.mark.parametrize("options", [[], ["--live"]], ids=["trace", "live"])
+def test_files_under_any_umask(folder_of_nobody, options):
+    """The recorder's files are for its reader, whoever else may read what the program makes."""
+    command = [RECORD, *options, "-o", "t.std", "./locks", "hides_its_files"]
+    done = subprocess.run(command, stderr=subprocess.PIPE, timeout=LIMIT, **NOBODY)
+    said = done.stderr.decode()
+    assert done.returncode == 0 and ": 200704 events" in said and ": 2 events" in said, said
+    assert said.count("; settled\n") == (2 if options else 0), said
+    assert raw_directories() == [], str(os.listdir("."))
+
+
+@pytest.mark.parametrize("options", [[], ["--live"]], ids=["trace", "live"])
+def test_file_that_cannot_be_read(folder_of_nobody, options):
+    """What is in it would be missing: nothing is written, and what was recorded stays."""
+    running = subprocess.Popen([RECORD, "-o", "t.std", "./locks", "volume_and_wait"], stdout=subprocess.PIPE, **NOBODY)
+    program = int(read_line(running.stdout).split()[1])
+    running.kill()
+    running.wait()
+    running.stdout.close()
+    end(program)
+    directory = raw_directory("t.std")
+    file = "%s/%d.0.1" % (directory, program)
+    os.chmod(file, 0)
+    command = [RECORD, *options, "-o", "t.std", "--convert", directory]
+    done = subprocess.run(command, stderr=subprocess.PIPE, timeout=LIMIT, **NOBODY)
+    said = done.stderr.decode()
+    assert done.returncode == REFUSED and "%d.0.1 can't be read: Permission denied" % program in said, said
+    assert said.count("\n") == 1 and not os.path.exists("t.std") and os.path.exists(file), said
+    os.chmod(file, 0o600)
+    done = subprocess.run(command, stderr=subprocess.PIPE, timeout=LIMIT, **NOBODY)
+    assert done.returncode == 0 and os.path.exists("t.std"), done.stderr.decode()
 
 
 def test_program_that_gives_up_root(open_folder):

@@ -1,0 +1,136 @@
+/* How a process ends by itself: by exit in all its forms, or as it becomes another program. Each is marked in its file,
+ * so that who reads it later knows these from an end by a signal, which leaves no mark. */
+#define _GNU_SOURCE
+#include <stdarg.h>
+#include <stdlib.h>
+#include <sys/syscall.h>
+#include <unistd.h>
+
+#include "process.h"
+#include "real.h"
+
+/* A child of vfork calls from its parent's memory, and a process may be forked past the handlers: neither is the one
+ * whose mark this is. */
+static void end_mark(enum end_kind how)
+{
+    struct end_record *end = process.end;
+    if (end && process.pid == (uint64_t)getpid())
+        __atomic_store_n(&end->how, (uint64_t)how, __ATOMIC_RELEASE);
+}
+
+/* --- Exit --------------------------------------------------------------------------------------------------- */
+
+static void marks_exit(void *unused)
+{
+    (void)unused;
+    end_mark(END_EXIT);
+}
+
+static void marks_quick_exit(void)
+{
+    end_mark(END_EXIT);
+}
+
+extern int __cxa_atexit(void (*function)(void *), void *argument, void *module);
+
+/* Handlers run in the reverse of the order in which they are set: these two after those of the program and the
+ * destructors of all libraries. They are of no module, as those of one run with its destructors. */
+void endings_start(void)
+{
+    static int set;
+    if (!set)
+        set = __cxa_atexit(marks_exit, NULL, NULL) == 0 && at_quick_exit(marks_quick_exit) == 0;
+}
+
+#define EXIT(call, status) \
+    if (unlikely(!real_found)) \
+        real_find(); \
+    end_mark(END_EXIT); \
+    call; \
+    for (;;) \
+    syscall(SYS_exit_group, status)
+
+EXPORTED void _exit(int status)
+{
+    EXIT(real._exit(status), status);
+}
+
+EXPORTED void _Exit(int status)
+{
+    EXIT(real._Exit(status), status);
+}
+
+/* --- Calls that come back only if they fail ------------------------------------------------------------------- */
+
+#define ENDING(how, call) \
+    if (unlikely(!real_found)) \
+        real_find(); \
+    end_mark(how); \
+    int result = call; \
+    end_mark(END_UNKNOWN); \
+    return result
+
+/* The parent ends within the call. In the child, where it comes back too, the mark is the child's own. */
+EXPORTED int daemon(int stays, int keeps_files)
+{
+    ENDING(END_EXIT, real.daemon(stays, keeps_files));
+}
+
+EXPORTED int execve(const char *path, char *const arguments[], char *const environment[])
+{
+    ENDING(END_EXEC, real.execve(path, arguments, environment));
+}
+
+EXPORTED int execv(const char *path, char *const arguments[])
+{
+    ENDING(END_EXEC, real.execv(path, arguments));
+}
+
+EXPORTED int execvp(const char *name, char *const arguments[])
+{
+    ENDING(END_EXEC, real.execvp(name, arguments));
+}
+
+EXPORTED int execvpe(const char *name, char *const arguments[], char *const environment[])
+{
+    ENDING(END_EXEC, real.execvpe(name, arguments, environment));
+}
+
+EXPORTED int fexecve(int file, char *const arguments[], char *const environment[])
+{
+    ENDING(END_EXEC, real.fexecve(file, arguments, environment));
+}
+
+/* Makes `arguments` of the words of a call that has them one by one, and `environment` of what comes behind them. */
+#define ARGUMENTS(first, environment) \
+    va_list words; \
+    size_t count = 1; \
+    va_start(words, first); \
+    while (va_arg(words, char *)) \
+        count++; \
+    va_end(words); \
+    char *arguments[count + 1]; \
+    arguments[0] = (char *)(uintptr_t)first; \
+    va_start(words, first); \
+    for (size_t i = 1; i <= count; i++) \
+        arguments[i] = va_arg(words, char *); \
+    environment; \
+    va_end(words)
+
+EXPORTED int execl(const char *path, const char *first, ...)
+{
+    ARGUMENTS(first, );
+    ENDING(END_EXEC, real.execv(path, arguments));
+}
+
+EXPORTED int execlp(const char *name, const char *first, ...)
+{
+    ARGUMENTS(first, );
+    ENDING(END_EXEC, real.execvp(name, arguments));
+}
+
+EXPORTED int execle(const char *path, const char *first, ...)
+{
+    ARGUMENTS(first, char *const *environment = va_arg(words, char *const *));
+    ENDING(END_EXEC, real.execve(path, arguments, environment));
+}
