@@ -2,6 +2,7 @@
 here are the tables and the names."""
 
 import bisect
+import errno
 import hashlib
 import mmap
 import os
@@ -32,6 +33,7 @@ NO_KINDS = (0,) * KINDS
 UPGRADE, BEYOND, AGAIN = 9, 10, 11
 NO_THREAD = 0xFFFFFFFFFFFFFFFF
 THREAD_LIMIT = 1024  # goodlock reads no more threads
+NO_ROOM = (0, errno.ENOSPC, errno.EFAULT)  # the last is what some file systems say of memory that they can't give a block
 EXAMPLES = 256  # how many threads at most are in all windows for what they do
 PIECE = 1 << 16  # words that are looked at at once
 KIND_AND_SITE = 0 if sys.byteorder == "little" else 1  # which half of a word has these
@@ -154,6 +156,7 @@ class Process:
         self.locks = {}
         self.threads = {}
         self.lost = Counter()
+        self.reason = 0  # why something was lost: the number of an error
         self.places = {}  # number: lines `path:line`, of a recorder that knows names
         self.notes = []
         self.no_locks = []
@@ -205,6 +208,7 @@ class Process:
             self.threads[values[0]] = Thread(values.tolist(), self.modules.when)
         elif kind == RECORD_LOSSES:
             self.lost = Counter(dict(zip(("events", "locks", "places", "threads"), values.tolist())))
+            self.reason = values[4] & 0xFFFF if len(values) > 4 else 0
         elif kind == RECORD_NO_LOCK:
             self.no_locks.append(values[0])
         elif RECORD_PLACE <= kind <= RECORD_NOTE:
@@ -679,10 +683,11 @@ class Summary:
             )
         for what, count in self.lost.items():
             if count:
-                yield "%s: %d %s were lost: there was no room for them" % (
+                yield "%s: %d %s were lost: %s" % (
                     self.path if self.events else self.name(),
                     count,
                     what,
+                    "there was no room for them" if process.reason in NO_ROOM else os.strerror(process.reason),
                 )
         for note in process.notes:
             yield "%s: %s" % (self.path if self.events else self.name(), note)

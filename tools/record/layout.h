@@ -101,13 +101,14 @@ struct start_record {
     uint64_t moment; /* when the process began: field 22 of /proc/PID/stat */
 };
 
-/* What there was no room for; counted on while the process runs. */
+/* What there was no room for; counted on while the process runs. A recorder may leave the reason out. */
 struct losses_record {
     uint64_t head;
     uint64_t events; /* of threads without a record; others count their own */
     uint64_t locks;  /* records of locks: they have names by their first use */
     uint64_t places; /* sites */
     uint64_t threads;
+    uint64_t reason; /* the errno of the first refusal */
 };
 
 struct module_record {

@@ -21,8 +21,10 @@ uint32_t lock_number_new(struct thread *thread, const void *address, enum lock_c
         /* Without a record it still has a number of its own. */
         struct lock_record *record = slot ? record_new(RECORD_LOCK, sizeof *record) : NULL;
         number = slot ? process.next_lock++ : 0;
-        if (!record)
+        if (!record) {
+            loss_begins();
             count_loss(&process.losses->locks);
+        }
         if (record) {
             record->lock = number;
             record->class_and_origin = (uint64_t) class | (uint64_t)origin << 32;

@@ -9,6 +9,7 @@
 #ifndef GOODLOCK_RECORDER_H
 #define GOODLOCK_RECORDER_H
 
+#include <errno.h>
 #include <pthread.h>
 #include <stddef.h>
 #include <stdint.h>
@@ -514,6 +515,13 @@ static inline __attribute__((always_inline)) void release_write(struct thread *t
 static inline void count_loss(uint64_t *losses)
 {
     __atomic_fetch_add(losses, 1, __ATOMIC_RELAXED);
+}
+
+/* Why there is no room: the errno of what was just refused, if it is the first. */
+static inline void loss_begins(void)
+{
+    if (process.losses->reason == 0)
+        process.losses->reason = (uint64_t)errno;
 }
 
 static inline void count_other(struct thread *thread)

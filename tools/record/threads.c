@@ -50,8 +50,10 @@ static int thread_chunk(struct thread *thread)
     struct chunk *chunk = NULL;
     for (; !chunk && bytes >= CHUNK_UNIT; bytes /= 2)
         chunk = chunk_new(CHUNK_EVENTS, thread->number, (uint32_t)order, bytes);
-    if (!chunk)
+    if (!chunk) {
+        loss_begins();
         return 0;
+    }
     thread->record->chunks++;
     thread->room = (chunk->bytes - sizeof *chunk) / 8;
     thread->chunk = chunk;
@@ -188,6 +190,7 @@ __attribute__((constructor(102))) static void exit_key_start(void)
 uint64_t *word_store_slow(struct thread *thread, uint64_t word)
 {
     int room = 0;
+    thread->chunk->used = thread->room; /* and no more, also where no word is stored */
     if (!process.full) {
         struct slow_state state;
         slow_enter(&state);
@@ -266,6 +269,7 @@ static struct beginning *beginning_plan(struct thread *thread, uint64_t routine,
         beginning->record = thread_record_new(thread->number, thread->record->children + 1, routine, argument);
     }
     if (beginning && !beginning->record) {
+        loss_begins();
         count_loss(&process.losses->threads);
         beginning->users = 1;
         beginning_drop(beginning);

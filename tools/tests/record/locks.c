@@ -9,6 +9,7 @@
 #include <stdio.h>
 #include <stdlib.h>
 #include <string.h>
+#include <sys/resource.h>
 #include <sys/syscall.h>
 #include <sys/time.h>
 #include <sys/wait.h>
@@ -612,6 +613,35 @@ static void volume_and_wait(void)
     pause();
 }
 
+/* Fills all the room that there is, without a file for more. */
+static void *takes_all_room(void *unused)
+{
+    static pthread_mutex_t crowd[40000];
+    pthread_mutex_lock(&a);                                                    /* @takes_all_room */
+    pthread_mutex_unlock(&a);
+    for (int i = 0; i < 40000; i++)
+        pthread_mutex_unlock(&crowd[i]);
+    return unused;
+}
+
+/* Repeats something at each place of its chunk, up to the last one, behind which there is the other thread's. */
+static void no_files(void)
+{
+    static pthread_mutex_t crowd[1000];
+    struct rlimit none = {0, 0};
+    pthread_t thread;
+    MUST(setrlimit(RLIMIT_NOFILE, &none) == 0);
+    pthread_create(&thread, NULL, takes_all_room, NULL);
+    pthread_join(thread, NULL);
+    for (int i = 0; i < 1000; i++) {
+        pthread_mutex_lock(&a);
+        pthread_mutex_lock(&b);
+        pthread_mutex_unlock(&b);
+        pthread_mutex_unlock(&a);
+        pthread_mutex_unlock(&crowd[i]);
+    }
+}
+
 static void many_threads(void)
 {
     for (int i = 0; i < 1100; i++) {
@@ -827,7 +857,7 @@ static const struct {
     {"upgrade", upgrade}, {"again_plain", again_plain}, {"handed_over", handed_over}, {"beyond", beyond}, {"gives_up_root", gives_up_root},
     {"many_locks", many_locks}, {"waits_in_background", waits_in_background}, {"stray", stray}, {"keys", keys}, {"signals", signals}, {"signal_storm", signal_storm},
     {"repeats", repeats}, {"volume", volume}, {"volume_and_wait", volume_and_wait}, {"volume_and_thread", volume_and_thread},
-    {"many_threads", many_threads}, {"forks", forks},
+    {"no_files", no_files}, {"many_threads", many_threads}, {"forks", forks},
     {"parent_goes_on", parent_goes_on}, {"raw_fork", raw_fork}, {"executes", executes}, {"clears_environment", clears_environment},
     {"goes_to_background", goes_to_background}, {"waits_for_signal", waits_for_signal}, {"frames", frames}, {"frames_vary", frames_vary},
     {"table", table}, {"nothing", nothing},
