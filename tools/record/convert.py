@@ -188,6 +188,11 @@ class Process:
                     raise KeyError(number)
             checked.update(way)
 
+    def drop_unmade(self):
+        """Threads that couldn't be made are none."""
+        for number in [number for number, thread in self.threads.items() if thread.unmade]:
+            del self.threads[number]
+
     def read_record(self, kind, values, modules):
         if kind == RECORD_PROCESS:
             if values[0] != LAYOUT_VERSION:
@@ -282,6 +287,7 @@ def processes_of(events, tables, modules):
             for thread, order, path, offset, count in sorted(events[key]):
                 process.threads[thread].chunks.append((path, offset, count))
             process.check_births()
+            process.drop_unmade()
             processes[key] = process
         except (ConvertError, KeyError, IndexError, ValueError) as error:
             faults.append(
@@ -499,8 +505,6 @@ class Names:
 
     def name_threads(self):
         threads = self.process.threads
-        for number in [n for n, thread in threads.items() if thread.unmade]:
-            del threads[number]
         routines = {thread.number: self.routine_of(thread) for thread in threads.values()}
         readable = demangled(routines.values())
         for thread in threads.values():

@@ -141,6 +141,13 @@ uint64_t *acquire_write_further(struct thread *thread, uint64_t word, struct hel
     return word_store(thread, word);
 }
 
+/* From this lock on, those held have new contexts. */
+static void contexts_renew(struct thread *thread, struct held *held)
+{
+    for (; held < thread->held + thread->held_count; held++)
+        held->context = key_of(held > thread->held ? held[-1].context : 0, held->identity);
+}
+
 /* Takes a lock out of the list of those held. If it wasn't acquired last, the later ones have new contexts. */
 static void held_remove(struct thread *thread, struct held *held)
 {
@@ -148,8 +155,7 @@ static void held_remove(struct thread *thread, struct held *held)
     keep_above(thread, held);
     memmove(held, held + 1, (size_t)(end - held) * sizeof *held);
     thread->held_count--;
-    for (; held < end; held++)
-        held->context = key_of(held > thread->held ? held[-1].context : 0, held->identity);
+    contexts_renew(thread, held);
 }
 
 /* Its key isn't known after all. */
@@ -203,6 +209,22 @@ static void key_insert(struct thread *thread, uint64_t key)
     thread->key_count++;
 }
 
+/* A signal handler finds no table with a mask that is too large for it. */
+static void keys_set(struct thread *thread, uint64_t *keys, uint32_t mask)
+{
+    thread->key_mask = KEYS_FIRST - 1;
+    __atomic_signal_fence(__ATOMIC_SEQ_CST);
+    thread->keys = keys;
+    __atomic_signal_fence(__ATOMIC_SEQ_CST);
+    thread->key_mask = mask;
+}
+
+static void keys_drop(struct thread *thread, uint64_t *keys, uint32_t mask)
+{
+    if (keys != thread->first_keys)
+        pages_drop(keys, sizeof *keys * (mask + 1));
+}
+
 static void keys_grow(struct thread *thread)
 {
     uint64_t *old = thread->keys;
@@ -210,14 +232,12 @@ static void keys_grow(struct thread *thread)
     uint64_t *larger = size < KEYS_LIMIT ? pages_new(2 * (size_t)size * sizeof *larger) : NULL;
     if (!larger)
         return;
-    thread->keys = larger;
-    thread->key_mask = 2 * size - 1;
+    keys_set(thread, larger, 2 * size - 1);
     thread->key_count = 0;
     for (uint32_t i = 0; i < size; i++)
         if (old[i] > KEY_GONE)
             key_insert(thread, old[i]);
-    if (old != thread->first_keys)
-        pages_drop(old, size * sizeof *old);
+    keys_drop(thread, old, size - 1);
 }
 
 int key_is_news_further(struct thread *thread, uint64_t key)
@@ -238,29 +258,55 @@ int key_is_news_further(struct thread *thread, uint64_t key)
     return 1;
 }
 
+/* --- Segments ------------------------------------------------------------------------------------------- */
+
 /* Locks that stay held were acquired in an earlier segment: they get other identities than the same locks
  * acquired from now on. */
-void segment_end(struct thread *thread)
+void segment_end(struct thread *thread, struct segment *before)
 {
+    before->news = thread->news++;
+    before->keys = thread->keys;
+    before->key_mask = thread->key_mask;
+    before->key_count = thread->key_count;
+    before->held_count = thread->held_count;
     thread->segments++;
-    uint64_t context = 0;
     for (uint32_t i = 0; i < thread->held_count; i++) {
-        struct held *held = &thread->held[i];
-        thread->levels[i].place = NULL;
-        held->identity = key_of(held->identity, thread->segments);
-        context = held->context = key_of(context, held->identity);
+        before->identities[i] = thread->held[i].identity;
+        thread->held[i].identity = key_of(thread->held[i].identity, thread->segments);
     }
+    contexts_renew(thread, thread->held);
     if (thread->key_count == 0)
         return;
     thread->changing = 1;
     __atomic_signal_fence(__ATOMIC_SEQ_CST);
-    if (thread->keys != thread->first_keys) {
-        pages_drop(thread->keys, sizeof *thread->keys * (thread->key_mask + 1));
-        thread->keys = thread->first_keys;
-        thread->key_mask = KEYS_FIRST - 1;
-    }
+    keys_set(thread, thread->first_keys, KEYS_FIRST - 1);
+    memcpy(before->first_keys, thread->first_keys, sizeof thread->first_keys);
     memset(thread->first_keys, 0, sizeof thread->first_keys);
     thread->key_count = 0;
     __atomic_signal_fence(__ATOMIC_SEQ_CST);
     thread->changing = 0;
+}
+
+void segment_drop(struct thread *thread, const struct segment *before)
+{
+    keys_drop(thread, before->keys, before->key_mask);
+}
+
+/* In a slow part. What was news in between stays so: its words were kept. */
+void segment_go_on(struct thread *thread, const struct segment *before)
+{
+    for (uint32_t i = 0; i < before->held_count && i < thread->held_count; i++)
+        thread->held[i].identity = before->identities[i];
+    contexts_renew(thread, thread->held);
+    if (thread->news == before->news + 1)
+        thread->news = before->news;
+    if (before->key_count == 0 && thread->key_count == 0)
+        return;
+    keys_drop(thread, thread->keys, thread->key_mask);
+    if (before->key_count > 0)
+        memcpy(thread->first_keys, before->first_keys, sizeof thread->first_keys);
+    else
+        memset(thread->first_keys, 0, sizeof thread->first_keys);
+    keys_set(thread, before->keys, before->key_mask);
+    thread->key_count = before->key_count;
 }

@@ -163,8 +163,8 @@ struct known_call {
 struct thread {
     struct chunk *chunk; /* NULL: not ready */
     uint64_t room;       /* words that the chunk holds */
-    uint64_t news;       /* counts acquires that were not known in this segment */
-    uint64_t segments;   /* counts forks and joins */
+    uint64_t news;       /* counts what was not known in this segment, forks and joins */
+    uint64_t segments;   /* counts forks, joins, and forks that failed */
     uint64_t *keys;      /* the known acquires of this segment, see key_of */
     uint32_t key_mask, key_count;
     uint32_t changing; /* a table of this thread's is being changed: a signal handler leaves it alone */
@@ -325,8 +325,19 @@ static inline int key_is_news(struct thread *thread, uint64_t key)
     return key_is_news_further(thread, key);
 }
 
-/* A fork or join: what comes after it is another segment. */
-void segment_end(struct thread *thread);
+/* A segment that is over, unless the fork that ended it fails. */
+struct segment {
+    uint64_t news;
+    uint64_t *keys;
+    uint32_t key_mask, key_count, held_count;
+    uint64_t identities[HELD_LIMIT];
+    uint64_t first_keys[KEYS_FIRST];
+};
+
+/* A fork or join: what comes after it is another segment. The one before is dropped then, or goes on, in a slow part. */
+void segment_end(struct thread *thread, struct segment *before);
+void segment_drop(struct thread *thread, const struct segment *before);
+void segment_go_on(struct thread *thread, const struct segment *before);
 
 /* --- Locks ---------------------------------------------------------------------------------------------- */
 

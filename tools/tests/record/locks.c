@@ -596,6 +596,45 @@ static void volume(void)
         }
 }
 
+/* --- Threads that are not made ---------------------------------------------------------------------------- */
+
+static void no_thread(void)
+{
+    pthread_attr_t too_large;
+    pthread_t thread;
+    pthread_attr_init(&too_large);
+    pthread_attr_setstacksize(&too_large, (size_t)1 << 46);
+    MUST(pthread_create(&thread, &too_large, quick, NULL) == EAGAIN);
+}
+
+/* Threads that can't be made, with locks held and without. */
+static void no_threads(void)
+{
+    for (int i = 0; i < 1500; i++) {
+        no_thread();
+        pthread_mutex_lock(&a);                                                /* @no_threads_a */
+        no_thread();
+        pthread_mutex_lock(&b);                                                /* @no_threads_b */
+        no_thread();
+        pthread_mutex_unlock(&a);                                              /* @no_threads_a_end */
+        pthread_mutex_unlock(&b);                                              /* @no_threads_b_end */
+    }
+}
+
+/* The same where many events are known. */
+static void no_threads_amid_many(void)
+{
+    for (int i = 0; i < 20; i++) {
+        no_thread();
+        for (int k = 0; k < 34 * 34; k++) {
+            pthread_mutex_lock(&many[k / 34]);
+            pthread_mutex_lock(&many[34 + k % 34]);
+            pthread_mutex_unlock(&many[34 + k % 34]);
+            pthread_mutex_unlock(&many[k / 34]);
+        }
+    }
+}
+
 /* The last thread comes when there may be no room left. */
 static void volume_and_thread(void)
 {
@@ -856,6 +895,8 @@ static const struct {
     {"racing", racing}, {"deadlock", deadlock}, {"aborts", aborts}, {"leaves_at_once", leaves_at_once},
     {"upgrade", upgrade}, {"again_plain", again_plain}, {"handed_over", handed_over}, {"beyond", beyond}, {"gives_up_root", gives_up_root},
     {"many_locks", many_locks}, {"waits_in_background", waits_in_background}, {"stray", stray}, {"keys", keys}, {"signals", signals}, {"signal_storm", signal_storm},
+    {"no_threads", no_threads},
+    {"no_threads_amid_many", no_threads_amid_many},
     {"repeats", repeats}, {"volume", volume}, {"volume_and_wait", volume_and_wait}, {"volume_and_thread", volume_and_thread},
     {"no_files", no_files}, {"many_threads", many_threads}, {"forks", forks},
     {"parent_goes_on", parent_goes_on}, {"raw_fork", raw_fork}, {"executes", executes}, {"clears_environment", clears_environment},

@@ -35,6 +35,20 @@ def test_what_is_left_out_adds_no_edge():
     assert shortest < 0.95 * longest, "%d of %d lines are left: nothing was tested" % (shortest, longest)
 
 
+def test_threads_that_cannot_be_made():
+    """They begin no segment: all is known that was known before."""
+    expect(
+        "no_threads",
+        """
+        main|acq(a)|@no_threads_a
+        main|acq(b)|@no_threads_b
+        main|rel(a)|@no_threads_a_end
+        main|rel(b)|@no_threads_b_end""",
+    )
+    lines = record("./locks", "no_threads_amid_many").lines()
+    assert len(lines) == 4 * 34 * 34, "%d lines" % len(lines)
+
+
 def test_many_stretches():
     """The 50,176 stretches of one pass are all kept, those of the next all left out, but a few at borders of chunks."""
     run = record("./locks", "volume")
