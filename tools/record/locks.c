@@ -183,19 +183,91 @@ void acquire_take_back(struct thread *thread, uint64_t *place)
     count_other(thread);
 }
 
+/* --- Moments to come back to ------------------------------------------------------------------------------ */
+
+/* What the thread holds: the key of all held locks, with the depths of those that were acquired more than once. */
+static uint64_t held_state(const struct thread *thread)
+{
+    uint64_t state = thread->held[thread->held_count - 1].context;
+    for (uint32_t i = 0; i < thread->held_count; i++)
+        if (thread->held[i].depth > 1)
+            state = key_of(state, thread->held[i].depth * HELD_LIMIT + i);
+    return state;
+}
+
+/* A signal handler finds no place, or state and place of one moment. */
+static void moment_set(struct thread *thread, struct moment *moment, uint64_t state)
+{
+    struct chunk *chunk = thread->chunk;
+    moment->place = NULL;
+    __atomic_signal_fence(__ATOMIC_SEQ_CST);
+    moment->state = state;
+    __atomic_signal_fence(__ATOMIC_SEQ_CST);
+    moment->place = chunk->used < thread->room ? &chunk->words[chunk->used] : NULL;
+}
+
+static void past_begin(struct thread *thread, struct level *level, struct past *past, uint64_t state)
+{
+    level->has_past = 0;
+    __atomic_signal_fence(__ATOMIC_SEQ_CST);
+    past->news = thread->news;
+    past->later.place = NULL;
+    past->releases = 0;
+    past->distance = 1;
+    moment_set(thread, &past->first, state);
+    __atomic_signal_fence(__ATOMIC_SEQ_CST);
+    level->has_past = 1;
+}
+
+/* After a release: leaves out all since a moment at which the thread held what it holds now. */
+static void past_look(struct thread *thread)
+{
+    struct level *level = &thread->levels[thread->held_count - 1];
+    struct past *past = &thread->pasts[thread->held_count - 1];
+    uint64_t state = held_state(thread);
+    if (!level->has_past || past->news != thread->news || !word_is_in_chunk(thread, past->first.place)) {
+        past_begin(thread, level, past, state);
+    } else if (past->first.state == state) {
+        past->later.place = NULL;
+        past->releases = 0;
+        past->distance = 1;
+        words_leave_out(thread, past->first.place);
+    } else if (past->later.state == state && word_is_in_chunk(thread, past->later.place)) {
+        past->releases = 0;
+        words_leave_out(thread, past->later.place);
+    } else if (++past->releases >= past->distance) {
+        past->releases = 0;
+        past->distance *= 2;
+        moment_set(thread, &past->later, state);
+    }
+}
+
+/* --- Releases --------------------------------------------------------------------------------------------- */
+
+static void stray_write(struct thread *thread, uint64_t word)
+{
+    if (!key_is_news(thread, key_of(0, word))) {
+        thread->record->left_out++;
+        return;
+    }
+    news_add(thread);
+    word_store(thread, word);
+}
+
 void release_write_further(struct thread *thread, uint64_t call)
 {
     struct held *held = held_find(thread, word_object(call));
-    uint64_t word = call | (held && is_shared(held->word) ? EVENT_SHARED_RELEASE : EVENT_RELEASE);
-    if (!held && !key_is_news(thread, key_of(0, word))) {
-        thread->record->left_out++; /* a stray release that is known */
+    if (!held) {
+        stray_write(thread, call | EVENT_RELEASE);
         return;
     }
-    word_store(thread, word);
-    if (held && --held->depth == 0)
+    word_store(thread, call | (is_shared(held->word) ? EVENT_SHARED_RELEASE : EVENT_RELEASE));
+    if (--held->depth == 0)
         held_remove(thread, held);
-    else if (held)
+    else
         keep_above(thread, held);
+    if (thread->held_count > 0)
+        past_look(thread);
 }
 
 /* --- Keys ----------------------------------------------------------------------------------------------- */

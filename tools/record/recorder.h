@@ -130,8 +130,23 @@ struct held {
 
 /* Where the number of held locks last became one more than this level's index. */
 struct level {
-    uint64_t *place; /* of the acquire; NULL: a lock of a lower level had an event since */
-    uint64_t news;   /* the thread's news before the acquire */
+    uint64_t *place;   /* of the acquire; NULL: a lock of a lower level had an event since */
+    uint64_t news;     /* the thread's news before the acquire */
+    uint64_t has_past; /* whether its past, see below, began since */
+};
+
+/* A moment just after a release. */
+struct moment {
+    uint64_t *place; /* of the word that comes next; NULL: there is none */
+    uint64_t state;  /* what the thread held, see held_state */
+};
+
+/* Moments at which the thread held as many locks as now, with no fewer and no news since. */
+struct past {
+    uint64_t news;
+    struct moment first;
+    struct moment later;         /* moves on, each time twice as far */
+    uint64_t releases, distance; /* releases since it moved, and after how many it moves again */
 };
 
 /* The return addresses further up the stack that tell a site: each lies so far above the one before it. Is never
@@ -178,6 +193,7 @@ struct thread {
     uint64_t sink; /* takes what there is no room for */
     struct held held[HELD_LIMIT];
     struct level levels[HELD_LIMIT];
+    struct past pasts[HELD_LIMIT];
     struct known_call known_calls[1 << KNOWN_CALL_BITS];
     uint64_t first_keys[KEYS_FIRST];
 };
@@ -289,6 +305,21 @@ static inline uint32_t word_object(uint64_t word)
  * thread) of this lock at this place while these locks are held, each acquired at its place. A key stands for all that;
  * the thread keeps the keys of its segment. When the thread holds as many locks again as before an acquire, all since
  * then is left out, if there was no news and no event of a lock that was held before.
+ *
+ * A thread that never lets go of all (hand over hand, a lock of two) has events of such locks for ever. So all since a
+ * moment is left out, too, if the thread holds again what it held then: the same locks, of acquires at the same places
+ * in the same order, of the same segments and as deep; and if there was no news since. This loses no edge, as each
+ * acquire among it that makes edges has a key, and the first one of that key was news: it stays, and so does all in
+ * front of it, in which the held locks were acquired. The first of equal edges is one of news, as all that makes an
+ * edge, and its places, is in the key; so the samples stay, and what stays keeps its order. The list is lawful: what is
+ * behind the gap finds the thread as it was in front of it. Forks, joins and strays count as news, and so are never
+ * among what is left out.
+ *
+ * Of the moments at each number of held locks two are remembered (locks.c): the first one since the number was less,
+ * since the last news or the chunk's begin; and one that moves on. What was acquired while fewer were held would be
+ * left out with its level. A thread that comes back to the first moment leaves no more than one way around; one
+ * that doesn't, as it walks in another ring now, comes back to the moving one as soon as that moves no sooner than
+ * after a whole round. Nothing of this is looked at where the last lock is released, as most are.
  */
 static inline uint64_t key_of(uint64_t context, uint64_t word)
 {
@@ -494,7 +525,7 @@ static inline __attribute__((always_inline)) uint64_t *acquire_write(struct thre
     }
     context = key_of(context, word);
     held_add(thread, count, word, context);
-    thread->levels[count] = (struct level){NULL, thread->news};
+    thread->levels[count] = (struct level){NULL, thread->news, 0};
     if (key_is_news(thread, context))
         news_add(thread);
     return thread->levels[count].place = word_store(thread, word);

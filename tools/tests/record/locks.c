@@ -596,7 +596,41 @@ static void volume(void)
         }
 }
 
-/* --- Threads that are not made ---------------------------------------------------------------------------- */
+/* --- What comes round ------------------------------------------------------------------------------------- */
+
+/* Walks around four locks, and holds one all the time. */
+static void ring(void)
+{
+    pthread_mutex_lock(&many[0]);                                              /* @ring */
+    for (int i = 0; i < 200001; i++) {
+        pthread_mutex_lock(&many[(i + 1) % 4]);                                /* @ring_next */
+        pthread_mutex_unlock(&many[i % 4]);                                    /* @ring_last */
+    }
+    pthread_mutex_unlock(&many[1]);                                            /* @ring_end */
+}
+
+/* Walks around two locks and then around two others, in turn. */
+static void two_rings(void)
+{
+    pthread_mutex_lock(&many[0]);
+    for (int i = 0; i < 400000; i++) {
+        int here = i / 1000 % 2 * 2 + i % 2, next = (i + 1) / 1000 % 2 * 2 + (i + 1) % 2;
+        pthread_mutex_lock(&many[next]);
+        pthread_mutex_unlock(&many[here]);
+    }
+    pthread_mutex_unlock(&many[0]);
+}
+
+/* Asks again and again for a lock that it has, and isn't deeper in it than before. */
+static void deeper(void)
+{
+    pthread_mutex_lock(&again);                                                /* @deeper */
+    for (int i = 0; i < 100000; i++) {
+        pthread_mutex_lock(&again);                                            /* @deeper_again */
+        pthread_mutex_unlock(&again);                                          /* @deeper_back */
+    }
+    pthread_mutex_unlock(&again);                                              /* @deeper_end */
+}
 
 static void no_thread(void)
 {
@@ -895,7 +929,7 @@ static const struct {
     {"racing", racing}, {"deadlock", deadlock}, {"aborts", aborts}, {"leaves_at_once", leaves_at_once},
     {"upgrade", upgrade}, {"again_plain", again_plain}, {"handed_over", handed_over}, {"beyond", beyond}, {"gives_up_root", gives_up_root},
     {"many_locks", many_locks}, {"waits_in_background", waits_in_background}, {"stray", stray}, {"keys", keys}, {"signals", signals}, {"signal_storm", signal_storm},
-    {"no_threads", no_threads},
+    {"ring", ring}, {"two_rings", two_rings}, {"deeper", deeper}, {"no_threads", no_threads},
     {"no_threads_amid_many", no_threads_amid_many},
     {"repeats", repeats}, {"volume", volume}, {"volume_and_wait", volume_and_wait}, {"volume_and_thread", volume_and_thread},
     {"no_files", no_files}, {"many_threads", many_threads}, {"forks", forks},
