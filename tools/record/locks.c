@@ -168,6 +168,7 @@ static void key_take_away(struct thread *thread, uint64_t key)
 
 void acquire_take_back(struct thread *thread, uint64_t *place)
 {
+    uint32_t outside = change_begin(thread);
     unsigned kind = word_kind(*place);
     struct held *held = held_find(thread, word_object(*place));
     if (kind == EVENT_UPGRADE || kind == EVENT_BEYOND || kind == EVENT_AGAIN)
@@ -180,6 +181,7 @@ void acquire_take_back(struct thread *thread, uint64_t *place)
         held_remove(thread, held);
     }
     word_take_back(thread, place);
+    change_end(thread, outside);
     count_other(thread);
 }
 
@@ -266,7 +268,7 @@ void release_write_further(struct thread *thread, uint64_t call)
         held_remove(thread, held);
     else
         keep_above(thread, held);
-    if (thread->held_count > 0)
+    if (thread->held_count > 0 && thread->inside == 1)
         past_look(thread);
 }
 

@@ -184,6 +184,7 @@ struct thread {
     uint32_t key_mask, key_count;
     uint32_t changing; /* a table of this thread's is being changed: a signal handler leaves it alone */
     uint32_t held_count;
+    uint32_t inside; /* how many changes of words and held locks are at work: more than one in a signal handler */
     struct thread_record *record;
     uint32_t number;
     uint32_t exit_rounds;
@@ -365,7 +366,7 @@ struct segment {
     uint64_t first_keys[KEYS_FIRST];
 };
 
-/* A fork or join: what comes after it is another segment. The one before is dropped then, or goes on, in a slow part. */
+/* A fork or join: what comes after it is another segment. The one before is dropped then, or, in a slow part, goes on. */
 void segment_end(struct thread *thread, struct segment *before);
 void segment_drop(struct thread *thread, const struct segment *before);
 void segment_go_on(struct thread *thread, const struct segment *before);
@@ -511,8 +512,8 @@ static inline void held_add(struct thread *thread, uint32_t count, uint64_t word
 /* Writes an acquire; gives its place. `call` has site and lock, `kind` is one of the four acquires; `plain`: a thread
  * that holds the lock would wait for itself. The lock counts as held before the word is stored, so that a signal
  * handler's events lie between its acquire and release. */
-static inline __attribute__((always_inline)) uint64_t *acquire_write(struct thread *thread, enum event_kind kind,
-                                                                     uint64_t call, int plain)
+static inline __attribute__((always_inline)) uint64_t *acquire_add(struct thread *thread, enum event_kind kind,
+                                                                   uint64_t call, int plain)
 {
     uint64_t word = call | kind;
     uint64_t context = 0;
@@ -531,6 +532,30 @@ static inline __attribute__((always_inline)) uint64_t *acquire_write(struct thre
     return thread->levels[count].place = word_store(thread, word);
 }
 
+/* Between these two the words and what is held don't fit: a signal handler in there looks for no moment to go back to. */
+static inline uint32_t change_begin(struct thread *thread)
+{
+    uint32_t outside = thread->inside;
+    thread->inside = outside + 1;
+    __atomic_signal_fence(__ATOMIC_SEQ_CST);
+    return outside;
+}
+
+static inline void change_end(struct thread *thread, uint32_t outside)
+{
+    __atomic_signal_fence(__ATOMIC_SEQ_CST);
+    thread->inside = outside;
+}
+
+static inline __attribute__((always_inline)) uint64_t *acquire_write(struct thread *thread, enum event_kind kind,
+                                                                     uint64_t call, int plain)
+{
+    uint32_t outside = change_begin(thread);
+    uint64_t *place = acquire_add(thread, kind, call, plain);
+    change_end(thread, outside);
+    return place;
+}
+
 /* Takes the acquire at this place back: its call failed. */
 void acquire_take_back(struct thread *thread, uint64_t *place);
 
@@ -541,6 +566,7 @@ void release_write_further(struct thread *thread, uint64_t call);
  * afterwards. */
 static inline __attribute__((always_inline)) void release_write(struct thread *thread, uint64_t call)
 {
+    uint32_t outside = change_begin(thread);
     uint32_t last = thread->held_count - 1;
     if (likely(thread->held_count > 0 && word_object(thread->held[last].word) == word_object(call) &&
                thread->held[last].depth == 1 && thread->levels[last].news == thread->news &&
@@ -551,6 +577,7 @@ static inline __attribute__((always_inline)) void release_write(struct thread *t
     } else {
         release_write_further(thread, call);
     }
+    change_end(thread, outside);
 }
 
 /* Counts what there was no room for. */

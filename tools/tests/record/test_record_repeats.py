@@ -5,7 +5,7 @@ import re
 
 import pytest
 from c_traces import PAIR, expect, record
-from known_traces import edges_of, others_of
+from known_traces import edges_of, is_front_of_a_run, others_of
 
 
 def test_repeats_are_left_out():
@@ -56,6 +56,15 @@ def test_hand_over_hand():
     ]
     run = expect("ring", "main|acq(many)|@ring" + "".join(steps) + "\nmain|rel(many+0x28)|@ring_end")
     assert "and %d of repeats" % (2 * (200001 - 5)) in run.said, run.said
+
+
+@pytest.mark.parametrize("times", range(3))
+def test_hand_over_hand_under_signals(times):
+    """Wherever a signal comes in between, what is taken is released, and nothing is kept again and again."""
+    lines = record("./storm").lines()
+    is_front_of_a_run(lines)
+    assert not any(others_of(lines)[1].values()), "in the end it holds %s" % others_of(lines)[1]
+    assert len(lines) < 5000, "%d lines" % len(lines)
 
 
 def test_two_rings_in_turn():
