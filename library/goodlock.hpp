@@ -11,8 +11,10 @@
 // its start (goodlock::thread) or from its first lock (any other thread, whose fork isn't known then), until it ends.
 // Before start() and after finish() all of this works as std's does, and nothing is recorded.
 //
-// - goodlock::mutex and recursive_mutex may be used with std::lock_guard, unique_lock, scoped_lock and condition_variable_any;
-//   places are then lines of the standard library's headers. guard<M> (and shared_guard<M>) or lock() itself have yours.
+// - goodlock::mutex, recursive_mutex, timed_mutex, recursive_timed_mutex and shared_mutex may be used with std::lock_guard,
+//   unique_lock, shared_lock, scoped_lock and condition_variable_any; places are then lines of the standard library's headers.
+//   guard<M> (and shared_guard<M>) or lock() itself have yours. A lock with a limit of time is recorded as a try, if it is
+//   taken. What is done by native_handle() isn't recorded.
 // - Each lock has a name, by which reports tell it: the one it is made with (a second lock of that name is "name#2", or "name#3"
 //   where a lock has that name already, and so on), or else where it was made, as "mutex@bank.cc:17#1".
 // - A record costs what goodlock_record costs and a look-up of the place in a table of the thread. The first pass of a thread
@@ -30,15 +32,14 @@
 #include <chrono>
 #include <cstdint>
 #include <mutex>
+#include <pthread.h>
 #include <string>
+#include <system_error>
 #include <thread>
 #include <type_traits>
 #include <unordered_map>
 #include <utility>
 #include <vector>
-#if __cplusplus >= 201703L
-#include <shared_mutex>
-#endif
 
 // The line of the source that calls, as a parameter that is left out.
 #define GOODLOCK_HERE goodlock::line here = goodlock::line::now()
@@ -330,10 +331,37 @@ private:
     uint32_t number = NONE;
 };
 
+// As std::shared_mutex, which is there from C++17 on.
+class shared_lock {
+public:
+    using native_handle_type = pthread_rwlock_t *;
+    shared_lock() = default;
+    ~shared_lock() { pthread_rwlock_destroy(&inner); }
+    shared_lock(const shared_lock &) = delete;
+    shared_lock &operator=(const shared_lock &) = delete;
+
+    void lock() { check(pthread_rwlock_wrlock(&inner)); }
+    bool try_lock() { return pthread_rwlock_trywrlock(&inner) == 0; }
+    void unlock() { pthread_rwlock_unlock(&inner); }
+    void lock_shared() { check(pthread_rwlock_rdlock(&inner)); }
+    bool try_lock_shared() { return pthread_rwlock_tryrdlock(&inner) == 0; }
+    void unlock_shared() { pthread_rwlock_unlock(&inner); }
+    native_handle_type native_handle() { return &inner; }
+
+private:
+    static void check(int error) {
+        if (error != 0)
+            throw std::system_error(error, std::generic_category());
+    }
+
+    pthread_rwlock_t inner = PTHREAD_RWLOCK_INITIALIZER;
+};
+
 // A lock of std with its number.
 template <class M> class recorded {
 public:
-    explicit recorded(GOODLOCK_HERE) : number(here) {}
+    using native_handle_type = typename M::native_handle_type;
+    recorded(GOODLOCK_HERE) : number(here) {}
     explicit recorded(const std::string &name) : number(name) {}
     recorded(const recorded &) = delete;
     recorded &operator=(const recorded &) = delete;
@@ -357,10 +385,32 @@ public:
         number.record(GOODLOCK_RELEASE, here);
         inner.unlock();
     }
+    native_handle_type native_handle() { return inner.native_handle(); }
 
 protected:
     M inner;
     numbered number;
+};
+
+// One that may be asked for with a limit of time.
+template <class M> class recorded_timed : public recorded<M> {
+public:
+    recorded_timed(GOODLOCK_HERE) : recorded<M>(here) {}
+    explicit recorded_timed(const std::string &name) : recorded<M>(name) {}
+
+    template <class R, class P> bool try_lock_for(const std::chrono::duration<R, P> &time, GOODLOCK_HERE) {
+        return tried(this->inner.try_lock_for(time), here);
+    }
+    template <class C, class D> bool try_lock_until(const std::chrono::time_point<C, D> &time, GOODLOCK_HERE) {
+        return tried(this->inner.try_lock_until(time), here);
+    }
+
+private:
+    bool tried(bool is_taken, const line &here) {
+        if (is_taken)
+            this->number.record(GOODLOCK_TRY_ACQUIRE, here);
+        return is_taken;
+    }
 };
 
 } // namespace detail
@@ -388,12 +438,13 @@ inline result finish(uint32_t mode = GOODLOCK_FULL_MODE, uint32_t length = 4, ui
 
 using mutex = detail::recorded<std::mutex>;
 using recursive_mutex = detail::recorded<std::recursive_mutex>;
+using timed_mutex = detail::recorded_timed<std::timed_mutex>;
+using recursive_timed_mutex = detail::recorded_timed<std::recursive_timed_mutex>;
 
-#if __cplusplus >= 201703L
 // A lock that readers share.
-class shared_mutex : public detail::recorded<std::shared_mutex> {
+class shared_mutex : public detail::recorded<detail::shared_lock> {
 public:
-    explicit shared_mutex(GOODLOCK_HERE) : recorded(here) {}
+    shared_mutex(GOODLOCK_HERE) : recorded(here) {}
     explicit shared_mutex(const std::string &name) : recorded(name) {}
 
     void lock_shared(GOODLOCK_HERE) {
@@ -429,7 +480,6 @@ private:
     M &held;
     const line at;
 };
-#endif
 
 // Holds a lock while it stands, as std::lock_guard does.
 template <class M> class guard {
@@ -447,6 +497,9 @@ private:
 // A std::thread whose start and end are recorded. It runs what can be called with the arguments (no pointers to members).
 class thread {
 public:
+    using id = std::thread::id;
+    using native_handle_type = std::thread::native_handle_type;
+
     thread() = default;
     template <class F, class... Arguments,
               class = typename std::enable_if<!std::is_same<typename std::decay<F>::type, thread>::value>::type>
@@ -474,7 +527,14 @@ public:
     }
     void detach() { inner.detach(); }
     bool joinable() const { return inner.joinable(); }
-    std::thread::id get_id() const { return inner.get_id(); }
+    id get_id() const { return inner.get_id(); }
+    native_handle_type native_handle() { return inner.native_handle(); }
+    static unsigned hardware_concurrency() { return std::thread::hardware_concurrency(); }
+    void swap(thread &other) {
+        inner.swap(other.inner);
+        std::swap(number, other.number);
+    }
+    friend void swap(thread &one, thread &other) { one.swap(other); }
 
 private:
     template <class F, class... Arguments>

@@ -261,9 +261,10 @@ static inline uint32_t goodlock_names_named_(struct goodlock_names_table_ *table
 }
 
 /* The slot that this address has, or gets where it is claimed. NULL: it has none, or none is free in so many probes. */
-static inline struct goodlock_names_slot_ *goodlock_names_slot_(const struct goodlock_names_table_ *table,
-                                                                struct goodlock_names_slot_ *slots, const void *address,
-                                                                uint32_t probes, bool is_claimed)
+static inline struct goodlock_names_slot_ *goodlock_names_slot_of_(const struct goodlock_names_table_ *table,
+                                                                   struct goodlock_names_slot_ *slots,
+                                                                   const void *address, uint32_t probes,
+                                                                   bool is_claimed)
 {
     const uintptr_t own = (uintptr_t)address;
     uint32_t at = (uint32_t)((own * GOODLOCK_NAMES_MIX_) >> table->shift);
@@ -286,7 +287,7 @@ static inline struct goodlock_names_entry_ *goodlock_names_known_(const struct g
                                                                   struct goodlock_names_slot_ *slots,
                                                                   const void *address, uint32_t probes)
 {
-    struct goodlock_names_slot_ *const slot = goodlock_names_slot_(table, slots, address, probes, false);
+    struct goodlock_names_slot_ *const slot = goodlock_names_slot_of_(table, slots, address, probes, false);
     return slot == NULL ? NULL : GOODLOCK_NAMES_LOAD_(&slot->entry);
 }
 
@@ -306,7 +307,7 @@ static inline uint32_t goodlock_names_new_at_(struct goodlock_names_table_ *tabl
     own->number = GOODLOCK_NAMES_NONE_;
     code = goodlock_names_named_(table, name, length, &own->name);
     if (code == GOODLOCK_OK) {
-        slot = goodlock_names_slot_(table, table->addresses, address, table->mask + 1, true);
+        slot = goodlock_names_slot_of_(table, table->addresses, address, table->mask + 1, true);
         code = slot == NULL ? GOODLOCK_NAMES : GOODLOCK_OK;
     }
     if (code == GOODLOCK_OK && GOODLOCK_NAMES_SWAP_(&slot->entry, entry, own)) {
@@ -329,7 +330,7 @@ static inline uint32_t goodlock_names_new_literal_(struct goodlock_names_table_ 
         code = goodlock_names_numbered_(table, entry, number);
     if (code != GOODLOCK_OK)
         return code;
-    slot = goodlock_names_slot_(table, table->literals, literal, GOODLOCK_NAMES_PROBES_, true);
+    slot = goodlock_names_slot_of_(table, table->literals, literal, GOODLOCK_NAMES_PROBES_, true);
     if (slot != NULL)
         GOODLOCK_NAMES_STORE_(&slot->entry, entry);
     return GOODLOCK_OK;
@@ -496,7 +497,7 @@ static inline void goodlock_names_forget(const goodlock_names *names, const void
     struct goodlock_names_slot_ *slot;
     if (table == NULL || address == NULL)
         return;
-    slot = goodlock_names_slot_(table, table->addresses, address, table->mask + 1, false);
+    slot = goodlock_names_slot_of_(table, table->addresses, address, table->mask + 1, false);
     if (slot != NULL)
         GOODLOCK_NAMES_STORE_(&slot->entry, (struct goodlock_names_entry_ *)NULL);
 }

@@ -10,7 +10,7 @@ sessions.c records random sessions in running threads; each report's text and JS
 trace of what was recorded, byte for byte. Some hundred of them run under AddressSanitizer, ThreadSanitizer and Valgrind.
 misuse.c uses each call wrongly, refuses memory, forks and leaves in mid-course; partial.c leaves events out, and goes
 on in a second session; order.c tells the same by numbers in two orders, and their reports by mention have to be the
-same; wrapper.cc is of goodlock.hpp, names.c of goodlock_names.h, as C and as C++, by many threads and by all short
+same; wrapper.cc and forms.cc are of goodlock.hpp, names.c of goodlock_names.h, as C and as C++, by many threads and by all short
 schedules of two or three; debug.c breaks each promise that goodlock_debug.h checks, and the tests above that keep them
 are run with GOODLOCK_DEBUG, too, in which they say the same. Every run has a limit of time. The last line is `N passed,
 N failed`, with `, N skipped` behind it where tools are missing: each is named. PART: headers, examples, wrapper, names,
@@ -264,7 +264,9 @@ class Tests:
     def alone(self):
         languages = [("c", "c11", "gcc"), ("c", "c11", "clang"), ("c", "c99", "gcc"), ("c", "c17", "gcc")]
         languages += [
-            ("c++", standard, tool) for standard in ("c++11", "c++17", "c++20") for tool in ("g++", "clang++")
+            ("c++", standard, tool)
+            for standard in ("c++11", "c++14", "c++17", "c++20")
+            for tool in ("g++", "clang++")
         ]
         for language, standard, compiler in languages:
             name = f"the header as {standard} by {compiler}"
@@ -276,7 +278,7 @@ class Tests:
             source = self.folder / f"alone.{'cc' if language == 'c++' else 'c'}"
             source.write_text(text + "int alone;\n")
             for more in ([], ["-DGOODLOCK_DEBUG"], ["-DGOODLOCK_DEBUG=2"]):
-                words = [*STRICT, "-Wconversion", *more, "-fsyntax-only", f"-I{HEADERS}"]
+                words = [*STRICT, "-Wconversion", "-Wshadow", *more, "-fsyntax-only", f"-I{HEADERS}"]
                 done = run(compiler, f"-std={standard}", *words, source)
                 self.check(" ".join([name, *more]), done.status == 0, done.errors[-3000:])
 
@@ -485,6 +487,21 @@ class Tests:
             if self.build(f"wrapper_{name}", *c, "-lpthread"):
                 for word in ("locks", "names", "memory", "threads", "leave"):
                     self.counted(f"wrapper, {word}, {name}", f"wrapper_{name}", word, env=environment)
+            if name != "thread":  # gcc's doesn't know pthread_mutex_clocklock, by which std's limits of time go
+                self.forms(name, "g++", "c++17", *words)
+        for compiler in ("g++", "clang++"):
+            for standard in ("c++11", "c++14", "c++17", "c++20"):
+                if shutil.which(compiler) is None:
+                    self.skip(f"goodlock.hpp as {standard} by {compiler}", f"{compiler} isn't installed")
+                else:
+                    self.forms(f"{compiler} {standard}", compiler, standard)
+
+    def forms(self, name, compiler, standard, *words, **more):
+        """Whether goodlock.hpp has the forms of std, without a warning."""
+        c = [f"-std={standard}", "-O1", "-g", *STRICT, "-Wconversion", "-Wshadow", f"-I{HEADERS}", *words]
+        output = f"forms_{re.sub('[^a-z0-9]', '_', name)}"
+        if self.build(output, compiler, *c, HERE / "forms.cc", ARCHIVE, "-lpthread"):
+            self.counted(f"forms, {name}", output, "forms", **more)
 
     # --- Names
 

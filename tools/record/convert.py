@@ -2,6 +2,7 @@
 here are the tables and the names."""
 
 import bisect
+import errno
 import hashlib
 import mmap
 import os
@@ -33,6 +34,7 @@ NO_KINDS = (0,) * KINDS
 JOIN, UPGRADE, BEYOND, AGAIN = 8, 9, 10, 11
 NO_THREAD = 0xFFFFFFFFFFFFFFFF
 THREAD_LIMIT = 1024  # goodlock reads no more threads
+NO_ROOM = (0, errno.ENOSPC, errno.EFAULT)  # the last is what some file systems say of memory that they can't give a block
 EXAMPLES = 256  # how many threads at most are in all windows for what they do
 PIECE = 1 << 16  # words that are looked at at once
 KIND_AND_SITE = 0 if sys.byteorder == "little" else 1  # which half of a word has these
@@ -156,6 +158,7 @@ class Process:
         self.threads = {}
         self.lost = Counter()
         self.end = END_UNKNOWN
+        self.reason = 0  # why something was lost: the number of an error
         self.places = {}  # number: lines `path:line`, of a recorder that knows names
         self.notes = []
         self.no_locks = []
@@ -187,6 +190,11 @@ class Process:
                     raise KeyError(number)
             checked.update(way)
 
+    def drop_unmade(self):
+        """Threads that couldn't be made are none."""
+        for number in [number for number, thread in self.threads.items() if thread.unmade]:
+            del self.threads[number]
+
     def read_record(self, kind, values, modules):
         if kind == RECORD_PROCESS:
             if values[0] != LAYOUT_VERSION:
@@ -207,6 +215,7 @@ class Process:
             self.threads[values[0]] = Thread(values.tolist(), self.modules.when)
         elif kind == RECORD_LOSSES:
             self.lost = Counter(dict(zip(("events", "locks", "places", "threads"), values.tolist())))
+            self.reason = values[4] & 0xFFFF if len(values) > 4 else 0
         elif kind == RECORD_END:
             self.end = values[0]
         elif kind == RECORD_NO_LOCK:
@@ -282,6 +291,7 @@ def processes_of(events, tables, modules):
             for thread, order, path, offset, count in sorted(events[key]):
                 process.threads[thread].chunks.append((path, offset, count))
             process.check_births()
+            process.drop_unmade()
             processes[key] = process
         except (ConvertError, KeyError, IndexError, ValueError) as error:
             faults.append(
@@ -540,8 +550,6 @@ class Names:
 
     def name_threads(self):
         threads = self.process.threads
-        for number in [n for n, thread in threads.items() if thread.unmade]:
-            del threads[number]
         routines = {thread.number: self.routine_of(thread) for thread in threads.values()}
         readable = demangled(routines.values())
         for thread in threads.values():
@@ -724,10 +732,11 @@ class Summary:
             )
         for what, count in self.lost.items():
             if count:
-                yield "%s: %d %s were lost: there was no room for them" % (
+                yield "%s: %d %s were lost: %s" % (
                     self.path if self.events else self.name(),
                     count,
                     what,
+                    "there was no room for them" if process.reason in NO_ROOM else os.strerror(process.reason),
                 )
         for note in process.notes:
             yield "%s: %s" % (self.path if self.events else self.name(), note)

@@ -116,13 +116,14 @@ struct end_record {
     uint64_t how;
 };
 
-/* What there was no room for; counted on while the process runs. */
+/* What there was no room for; counted on while the process runs. A recorder may leave the reason out. */
 struct losses_record {
     uint64_t head;
     uint64_t events; /* of threads without a record; others count their own */
     uint64_t locks;  /* records of locks: they have names by their first use */
     uint64_t places; /* sites */
     uint64_t threads;
+    uint64_t reason; /* the errno of the first refusal */
 };
 
 struct module_record {

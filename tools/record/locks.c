@@ -21,8 +21,10 @@ uint32_t lock_number_new(struct thread *thread, const void *address, enum lock_c
         /* Without a record it still has a number of its own. */
         struct lock_record *record = slot ? record_new(RECORD_LOCK, sizeof *record) : NULL;
         number = slot ? process.next_lock++ : 0;
-        if (!record)
+        if (!record) {
+            loss_begins();
             count_loss(&process.losses->locks);
+        }
         if (record) {
             record->lock = number;
             record->class_and_origin = (uint64_t) class | (uint64_t)origin << 32;
@@ -139,6 +141,13 @@ uint64_t *acquire_write_further(struct thread *thread, uint64_t word, struct hel
     return word_store(thread, word);
 }
 
+/* From this lock on, those held have new contexts. */
+static void contexts_renew(struct thread *thread, struct held *held)
+{
+    for (; held < thread->held + thread->held_count; held++)
+        held->context = key_of(held > thread->held ? held[-1].context : 0, held->identity);
+}
+
 /* Takes a lock out of the list of those held. If it wasn't acquired last, the later ones have new contexts. */
 static void held_remove(struct thread *thread, struct held *held)
 {
@@ -146,8 +155,7 @@ static void held_remove(struct thread *thread, struct held *held)
     keep_above(thread, held);
     memmove(held, held + 1, (size_t)(end - held) * sizeof *held);
     thread->held_count--;
-    for (; held < end; held++)
-        held->context = key_of(held > thread->held ? held[-1].context : 0, held->identity);
+    contexts_renew(thread, held);
 }
 
 /* Its key isn't known after all. */
@@ -160,6 +168,7 @@ static void key_take_away(struct thread *thread, uint64_t key)
 
 void acquire_take_back(struct thread *thread, uint64_t *place)
 {
+    uint32_t outside = change_begin(thread);
     unsigned kind = word_kind(*place);
     struct held *held = held_find(thread, word_object(*place));
     if (kind == EVENT_UPGRADE || kind == EVENT_BEYOND || kind == EVENT_AGAIN)
@@ -172,22 +181,95 @@ void acquire_take_back(struct thread *thread, uint64_t *place)
         held_remove(thread, held);
     }
     word_take_back(thread, place);
+    change_end(thread, outside);
     count_other(thread);
+}
+
+/* --- Moments to come back to ------------------------------------------------------------------------------ */
+
+/* What the thread holds: the key of all held locks, with the depths of those that were acquired more than once. */
+static uint64_t held_state(const struct thread *thread)
+{
+    uint64_t state = thread->held[thread->held_count - 1].context;
+    for (uint32_t i = 0; i < thread->held_count; i++)
+        if (thread->held[i].depth > 1)
+            state = key_of(state, thread->held[i].depth * HELD_LIMIT + i);
+    return state;
+}
+
+/* A signal handler finds no place, or state and place of one moment. */
+static void moment_set(struct thread *thread, struct moment *moment, uint64_t state)
+{
+    struct chunk *chunk = thread->chunk;
+    moment->place = NULL;
+    __atomic_signal_fence(__ATOMIC_SEQ_CST);
+    moment->state = state;
+    __atomic_signal_fence(__ATOMIC_SEQ_CST);
+    moment->place = chunk->used < thread->room ? &chunk->words[chunk->used] : NULL;
+}
+
+static void past_begin(struct thread *thread, struct level *level, struct past *past, uint64_t state)
+{
+    level->has_past = 0;
+    __atomic_signal_fence(__ATOMIC_SEQ_CST);
+    past->news = thread->news;
+    past->later.place = NULL;
+    past->releases = 0;
+    past->distance = 1;
+    moment_set(thread, &past->first, state);
+    __atomic_signal_fence(__ATOMIC_SEQ_CST);
+    level->has_past = 1;
+}
+
+/* After a release: leaves out all since a moment at which the thread held what it holds now. */
+static void past_look(struct thread *thread)
+{
+    struct level *level = &thread->levels[thread->held_count - 1];
+    struct past *past = &thread->pasts[thread->held_count - 1];
+    uint64_t state = held_state(thread);
+    if (!level->has_past || past->news != thread->news || !word_is_in_chunk(thread, past->first.place)) {
+        past_begin(thread, level, past, state);
+    } else if (past->first.state == state) {
+        past->later.place = NULL;
+        past->releases = 0;
+        past->distance = 1;
+        words_leave_out(thread, past->first.place);
+    } else if (past->later.state == state && word_is_in_chunk(thread, past->later.place)) {
+        past->releases = 0;
+        words_leave_out(thread, past->later.place);
+    } else if (++past->releases >= past->distance) {
+        past->releases = 0;
+        past->distance *= 2;
+        moment_set(thread, &past->later, state);
+    }
+}
+
+/* --- Releases --------------------------------------------------------------------------------------------- */
+
+static void stray_write(struct thread *thread, uint64_t word)
+{
+    if (!key_is_news(thread, key_of(0, word))) {
+        thread->record->left_out++;
+        return;
+    }
+    news_add(thread);
+    word_store(thread, word);
 }
 
 void release_write_further(struct thread *thread, uint64_t call)
 {
     struct held *held = held_find(thread, word_object(call));
-    uint64_t word = call | (held && is_shared(held->word) ? EVENT_SHARED_RELEASE : EVENT_RELEASE);
-    if (!held && !key_is_news(thread, key_of(0, word))) {
-        thread->record->left_out++; /* a stray release that is known */
+    if (!held) {
+        stray_write(thread, call | EVENT_RELEASE);
         return;
     }
-    word_store(thread, word);
-    if (held && --held->depth == 0)
+    word_store(thread, call | (is_shared(held->word) ? EVENT_SHARED_RELEASE : EVENT_RELEASE));
+    if (--held->depth == 0)
         held_remove(thread, held);
-    else if (held)
+    else
         keep_above(thread, held);
+    if (thread->held_count > 0 && thread->inside == 1)
+        past_look(thread);
 }
 
 /* --- Keys ----------------------------------------------------------------------------------------------- */
@@ -201,6 +283,22 @@ static void key_insert(struct thread *thread, uint64_t key)
     thread->key_count++;
 }
 
+/* A signal handler finds no table with a mask that is too large for it. */
+static void keys_set(struct thread *thread, uint64_t *keys, uint32_t mask)
+{
+    thread->key_mask = KEYS_FIRST - 1;
+    __atomic_signal_fence(__ATOMIC_SEQ_CST);
+    thread->keys = keys;
+    __atomic_signal_fence(__ATOMIC_SEQ_CST);
+    thread->key_mask = mask;
+}
+
+static void keys_drop(struct thread *thread, uint64_t *keys, uint32_t mask)
+{
+    if (keys != thread->first_keys)
+        pages_drop(keys, sizeof *keys * (mask + 1));
+}
+
 static void keys_grow(struct thread *thread)
 {
     uint64_t *old = thread->keys;
@@ -208,14 +306,12 @@ static void keys_grow(struct thread *thread)
     uint64_t *larger = size < KEYS_LIMIT ? pages_new(2 * (size_t)size * sizeof *larger) : NULL;
     if (!larger)
         return;
-    thread->keys = larger;
-    thread->key_mask = 2 * size - 1;
+    keys_set(thread, larger, 2 * size - 1);
     thread->key_count = 0;
     for (uint32_t i = 0; i < size; i++)
         if (old[i] > KEY_GONE)
             key_insert(thread, old[i]);
-    if (old != thread->first_keys)
-        pages_drop(old, size * sizeof *old);
+    keys_drop(thread, old, size - 1);
 }
 
 int key_is_news_further(struct thread *thread, uint64_t key)
@@ -236,29 +332,55 @@ int key_is_news_further(struct thread *thread, uint64_t key)
     return 1;
 }
 
+/* --- Segments ------------------------------------------------------------------------------------------- */
+
 /* Locks that stay held were acquired in an earlier segment: they get other identities than the same locks
  * acquired from now on. */
-void segment_end(struct thread *thread)
+void segment_end(struct thread *thread, struct segment *before)
 {
+    before->news = thread->news++;
+    before->keys = thread->keys;
+    before->key_mask = thread->key_mask;
+    before->key_count = thread->key_count;
+    before->held_count = thread->held_count;
     thread->segments++;
-    uint64_t context = 0;
     for (uint32_t i = 0; i < thread->held_count; i++) {
-        struct held *held = &thread->held[i];
-        thread->levels[i].place = NULL;
-        held->identity = key_of(held->identity, thread->segments);
-        context = held->context = key_of(context, held->identity);
+        before->identities[i] = thread->held[i].identity;
+        thread->held[i].identity = key_of(thread->held[i].identity, thread->segments);
     }
+    contexts_renew(thread, thread->held);
     if (thread->key_count == 0)
         return;
     thread->changing = 1;
     __atomic_signal_fence(__ATOMIC_SEQ_CST);
-    if (thread->keys != thread->first_keys) {
-        pages_drop(thread->keys, sizeof *thread->keys * (thread->key_mask + 1));
-        thread->keys = thread->first_keys;
-        thread->key_mask = KEYS_FIRST - 1;
-    }
+    keys_set(thread, thread->first_keys, KEYS_FIRST - 1);
+    memcpy(before->first_keys, thread->first_keys, sizeof thread->first_keys);
     memset(thread->first_keys, 0, sizeof thread->first_keys);
     thread->key_count = 0;
     __atomic_signal_fence(__ATOMIC_SEQ_CST);
     thread->changing = 0;
+}
+
+void segment_drop(struct thread *thread, const struct segment *before)
+{
+    keys_drop(thread, before->keys, before->key_mask);
+}
+
+/* In a slow part. What was news in between stays so: its words were kept. */
+void segment_go_on(struct thread *thread, const struct segment *before)
+{
+    for (uint32_t i = 0; i < before->held_count && i < thread->held_count; i++)
+        thread->held[i].identity = before->identities[i];
+    contexts_renew(thread, thread->held);
+    if (thread->news == before->news + 1)
+        thread->news = before->news;
+    if (before->key_count == 0 && thread->key_count == 0)
+        return;
+    keys_drop(thread, thread->keys, thread->key_mask);
+    if (before->key_count > 0)
+        memcpy(thread->first_keys, before->first_keys, sizeof thread->first_keys);
+    else
+        memset(thread->first_keys, 0, sizeof thread->first_keys);
+    keys_set(thread, before->keys, before->key_mask);
+    thread->key_count = before->key_count;
 }

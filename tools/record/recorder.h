@@ -9,6 +9,7 @@
 #ifndef GOODLOCK_RECORDER_H
 #define GOODLOCK_RECORDER_H
 
+#include <errno.h>
 #include <pthread.h>
 #include <stddef.h>
 #include <stdint.h>
@@ -131,8 +132,23 @@ struct held {
 
 /* Where the number of held locks last became one more than this level's index. */
 struct level {
-    uint64_t *place; /* of the acquire; NULL: a lock of a lower level had an event since */
-    uint64_t news;   /* the thread's news before the acquire */
+    uint64_t *place;   /* of the acquire; NULL: a lock of a lower level had an event since */
+    uint64_t news;     /* the thread's news before the acquire */
+    uint64_t has_past; /* whether its past, see below, began since */
+};
+
+/* A moment just after a release. */
+struct moment {
+    uint64_t *place; /* of the word that comes next; NULL: there is none */
+    uint64_t state;  /* what the thread held, see held_state */
+};
+
+/* Moments at which the thread held as many locks as now, with no fewer and no news since. */
+struct past {
+    uint64_t news;
+    struct moment first;
+    struct moment later;         /* moves on, each time twice as far */
+    uint64_t releases, distance; /* releases since it moved, and after how many it moves again */
 };
 
 /* The return addresses further up the stack that tell a site: each lies so far above the one before it. Is never
@@ -164,12 +180,13 @@ struct known_call {
 struct thread {
     struct chunk *chunk; /* NULL: not ready */
     uint64_t room;       /* words that the chunk holds */
-    uint64_t news;       /* counts acquires that were not known in this segment */
-    uint64_t segments;   /* counts forks and joins */
+    uint64_t news;       /* counts what was not known in this segment, forks and joins */
+    uint64_t segments;   /* counts forks, joins, and forks that failed */
     uint64_t *keys;      /* the known acquires of this segment, see key_of */
     uint32_t key_mask, key_count;
     uint32_t changing; /* a table of this thread's is being changed: a signal handler leaves it alone */
     uint32_t held_count;
+    uint32_t inside; /* how many changes of words and held locks are at work: more than one in a signal handler */
     struct thread_record *record;
     uint32_t number;
     uint32_t exit_rounds;
@@ -179,6 +196,7 @@ struct thread {
     uint64_t sink; /* takes what there is no room for */
     struct held held[HELD_LIMIT];
     struct level levels[HELD_LIMIT];
+    struct past pasts[HELD_LIMIT];
     struct known_call known_calls[1 << KNOWN_CALL_BITS];
     uint64_t first_keys[KEYS_FIRST];
 };
@@ -290,6 +308,21 @@ static inline uint32_t word_object(uint64_t word)
  * thread) of this lock at this place while these locks are held, each acquired at its place. A key stands for all that;
  * the thread keeps the keys of its segment. When the thread holds as many locks again as before an acquire, all since
  * then is left out, if there was no news and no event of a lock that was held before.
+ *
+ * A thread that never lets go of all (hand over hand, a lock of two) has events of such locks for ever. So all since a
+ * moment is left out, too, if the thread holds again what it held then: the same locks, of acquires at the same places
+ * in the same order, of the same segments and as deep; and if there was no news since. This loses no edge, as each
+ * acquire among it that makes edges has a key, and the first one of that key was news: it stays, and so does all in
+ * front of it, in which the held locks were acquired. The first of equal edges is one of news, as all that makes an
+ * edge, and its places, is in the key; so the samples stay, and what stays keeps its order. The list is lawful: what is
+ * behind the gap finds the thread as it was in front of it. Forks, joins and strays count as news, and so are never
+ * among what is left out.
+ *
+ * Of the moments at each number of held locks two are remembered (locks.c): the first one since the number was less,
+ * since the last news or the chunk's begin; and one that moves on. What was acquired while fewer were held would be
+ * left out with its level. A thread that comes back to the first moment leaves no more than one way around; one
+ * that doesn't, as it walks in another ring now, comes back to the moving one as soon as that moves no sooner than
+ * after a whole round. Nothing of this is looked at where the last lock is released, as most are.
  */
 static inline uint64_t key_of(uint64_t context, uint64_t word)
 {
@@ -326,8 +359,19 @@ static inline int key_is_news(struct thread *thread, uint64_t key)
     return key_is_news_further(thread, key);
 }
 
-/* A fork or join: what comes after it is another segment. */
-void segment_end(struct thread *thread);
+/* A segment that is over, unless the fork that ended it fails. */
+struct segment {
+    uint64_t news;
+    uint64_t *keys;
+    uint32_t key_mask, key_count, held_count;
+    uint64_t identities[HELD_LIMIT];
+    uint64_t first_keys[KEYS_FIRST];
+};
+
+/* A fork or join: what comes after it is another segment. The one before is dropped then, or, in a slow part, goes on. */
+void segment_end(struct thread *thread, struct segment *before);
+void segment_drop(struct thread *thread, const struct segment *before);
+void segment_go_on(struct thread *thread, const struct segment *before);
 
 /* --- Locks ---------------------------------------------------------------------------------------------- */
 
@@ -475,8 +519,8 @@ static inline void held_add(struct thread *thread, uint32_t count, uint64_t word
 /* Writes an acquire; gives its place. `call` has site and lock, `kind` is one of the four acquires; `plain`: a thread
  * that holds the lock would wait for itself. The lock counts as held before the word is stored, so that a signal
  * handler's events lie between its acquire and release. */
-static inline __attribute__((always_inline)) uint64_t *acquire_write(struct thread *thread, enum event_kind kind,
-                                                                     uint64_t call, int plain)
+static inline __attribute__((always_inline)) uint64_t *acquire_add(struct thread *thread, enum event_kind kind,
+                                                                   uint64_t call, int plain)
 {
     uint64_t word = call | kind;
     uint64_t context = 0;
@@ -489,10 +533,34 @@ static inline __attribute__((always_inline)) uint64_t *acquire_write(struct thre
     }
     context = key_of(context, word);
     held_add(thread, count, word, context);
-    thread->levels[count] = (struct level){NULL, thread->news};
+    thread->levels[count] = (struct level){NULL, thread->news, 0};
     if (key_is_news(thread, context))
         news_add(thread);
     return thread->levels[count].place = word_store(thread, word);
+}
+
+/* Between these two the words and what is held don't fit: a signal handler in there looks for no moment to go back to. */
+static inline uint32_t change_begin(struct thread *thread)
+{
+    uint32_t outside = thread->inside;
+    thread->inside = outside + 1;
+    __atomic_signal_fence(__ATOMIC_SEQ_CST);
+    return outside;
+}
+
+static inline void change_end(struct thread *thread, uint32_t outside)
+{
+    __atomic_signal_fence(__ATOMIC_SEQ_CST);
+    thread->inside = outside;
+}
+
+static inline __attribute__((always_inline)) uint64_t *acquire_write(struct thread *thread, enum event_kind kind,
+                                                                     uint64_t call, int plain)
+{
+    uint32_t outside = change_begin(thread);
+    uint64_t *place = acquire_add(thread, kind, call, plain);
+    change_end(thread, outside);
+    return place;
 }
 
 /* Takes the acquire at this place back: its call failed. */
@@ -505,6 +573,7 @@ void release_write_further(struct thread *thread, uint64_t call);
  * afterwards. */
 static inline __attribute__((always_inline)) void release_write(struct thread *thread, uint64_t call)
 {
+    uint32_t outside = change_begin(thread);
     uint32_t last = thread->held_count - 1;
     if (likely(thread->held_count > 0 && word_object(thread->held[last].word) == word_object(call) &&
                thread->held[last].depth == 1 && thread->levels[last].news == thread->news &&
@@ -515,12 +584,20 @@ static inline __attribute__((always_inline)) void release_write(struct thread *t
     } else {
         release_write_further(thread, call);
     }
+    change_end(thread, outside);
 }
 
 /* Counts what there was no room for. */
 static inline void count_loss(uint64_t *losses)
 {
     __atomic_fetch_add(losses, 1, __ATOMIC_RELAXED);
+}
+
+/* Why there is no room: the errno of what was just refused, if it is the first. */
+static inline void loss_begins(void)
+{
+    if (process.losses->reason == 0)
+        process.losses->reason = (uint64_t)errno;
 }
 
 static inline void count_other(struct thread *thread)

@@ -401,6 +401,7 @@ static uint32_t site_new(struct slot *slot, const uintptr_t *callers, size_t cou
     if (process.next_site < SITE_LIMIT)
         record = record_new(RECORD_SITE, sizeof *record + count * sizeof callers[0]);
     if (!record) {
+        loss_begins();
         count_loss(&process.losses->places);
         __atomic_store_n(&slot->value, SITE_PLAIN, __ATOMIC_RELEASE);
         return 0;

@@ -50,8 +50,10 @@ static int thread_chunk(struct thread *thread)
     struct chunk *chunk = NULL;
     for (; !chunk && bytes >= CHUNK_UNIT; bytes /= 2)
         chunk = chunk_new(CHUNK_EVENTS, thread->number, (uint32_t)order, bytes);
-    if (!chunk)
+    if (!chunk) {
+        loss_begins();
         return 0;
+    }
     thread->record->chunks++;
     thread->room = (chunk->bytes - sizeof *chunk) / 8;
     thread->chunk = chunk;
@@ -188,10 +190,10 @@ __attribute__((constructor(102))) static void exit_key_start(void)
 uint64_t *word_store_slow(struct thread *thread, uint64_t word)
 {
     int room = 0;
+    thread->chunk->used = thread->room; /* and no more, also where no word is stored */
     if (!process.full) {
         struct slow_state state;
         slow_enter(&state);
-        thread->chunk->used = thread->room;
         room = thread_chunk(thread);
         process.full = !room;
         slow_leave(&state);
@@ -266,6 +268,7 @@ static struct beginning *beginning_plan(struct thread *thread, uint64_t routine,
         beginning->record = thread_record_new(thread->number, thread->record->children + 1, routine, argument);
     }
     if (beginning && !beginning->record) {
+        loss_begins();
         count_loss(&process.losses->threads);
         beginning->users = 1;
         beginning_drop(beginning);
@@ -278,11 +281,13 @@ static struct beginning *beginning_plan(struct thread *thread, uint64_t routine,
 }
 
 /* The thread wasn't made: its number is void, and the next one made is that child of its parent. */
-static void beginning_undo(struct thread *thread, struct beginning *beginning, uint64_t *place)
+static void beginning_undo(struct thread *thread, struct beginning *beginning, uint64_t *place,
+                           const struct segment *before)
 {
     struct slow_state state;
     slow_enter(&state);
     word_take_back(thread, place);
+    segment_go_on(thread, before);
     beginning->record->unmade = 1;
     thread->record->children--;
     beginning->users = 1;
@@ -319,12 +324,20 @@ static int thread_begin_c11(void *value)
     return routine(argument);
 }
 
-static uint64_t *fork_write(struct thread *thread, struct beginning *beginning, uint32_t site)
+/* Before the thread is made, so that no event of it is there without its fork. */
+static uint64_t *fork_write(struct thread *thread, struct beginning *beginning, uint32_t site, struct segment *before)
 {
-    segment_end(thread);
-    uint64_t *place = word_store(thread, event_word(EVENT_FORK, site, (uint32_t)beginning->record->thread));
+    segment_end(thread, before);
+    return word_store(thread, event_word(EVENT_FORK, site, (uint32_t)beginning->record->thread));
+}
+
+/* The thread was made: the fork stays. */
+static void fork_done(struct thread *thread, struct beginning *beginning, pthread_t handle,
+                      const struct segment *before)
+{
     words_keep(thread);
-    return place;
+    segment_drop(thread, before);
+    beginning_map(beginning, handle);
 }
 
 EXPORTED int pthread_create(pthread_t *handle, const pthread_attr_t *attributes, void *(*routine)(void *),
@@ -336,12 +349,13 @@ EXPORTED int pthread_create(pthread_t *handle, const pthread_attr_t *attributes,
     if (!beginning)
         return real.pthread_create(handle, attributes, routine, argument);
     beginning->routine = routine;
-    uint64_t *place = fork_write(thread, beginning, site);
+    struct segment before;
+    uint64_t *place = fork_write(thread, beginning, site, &before);
     int result = real.pthread_create(handle, attributes, thread_begin, beginning);
     if (result == 0)
-        beginning_map(beginning, *handle);
+        fork_done(thread, beginning, *handle, &before);
     else
-        beginning_undo(thread, beginning, place);
+        beginning_undo(thread, beginning, place, &before);
     return result;
 }
 
@@ -353,12 +367,13 @@ EXPORTED int thrd_create(thrd_t *handle, thrd_start_t routine, void *argument)
     if (!beginning)
         return real.thrd_create(handle, routine, argument);
     beginning->c11_routine = routine;
-    uint64_t *place = fork_write(thread, beginning, site);
+    struct segment before;
+    uint64_t *place = fork_write(thread, beginning, site, &before);
     int result = real.thrd_create(handle, thread_begin_c11, beginning);
     if (result == thrd_success)
-        beginning_map(beginning, (pthread_t)*handle);
+        fork_done(thread, beginning, (pthread_t)*handle, &before);
     else
-        beginning_undo(thread, beginning, place);
+        beginning_undo(thread, beginning, place, &before);
     return result;
 }
 
@@ -378,7 +393,9 @@ static void join_write(struct thread *thread, uint64_t number, uint32_t site, in
         count_other(thread);
         return;
     }
-    segment_end(thread);
+    struct segment before;
+    segment_end(thread, &before);
+    segment_drop(thread, &before);
     word_store(thread, event_word(EVENT_JOIN, site, (uint32_t)(number - 1)));
     words_keep(thread);
 }

@@ -216,6 +216,31 @@ def edges_of(lines):
     return edges
 
 
+def others_of(lines):
+    """What lines say beside the edges: of each thread its forks and joins, with all that it held, the first of equal releases of
+    what it didn't hold, and what it holds in the end. Releases have the mode of what they release."""
+    held, told = {}, {}
+    for line in lines:
+        thread, call, place = line.split("|", 2)
+        word, operand = re.fullmatch(r"(\w+)\((.*)\)", call).groups()
+        mine, others = held.setdefault(thread, {}), told.setdefault(thread, [])
+        if word in ("fork", "join"):
+            others.append((word, operand, place, tuple(mine.items())))
+        elif word in ("rel", "rrel") and operand not in mine:
+            segment = sum(other[0] in ("fork", "join") for other in others)
+            if (word, operand, place, segment) not in others:
+                others.append((word, operand, place, segment))
+        elif word in ("rel", "rrel"):
+            depth, shared, since = mine.pop(operand)
+            assert shared == (word == "rrel"), line
+            if depth > 1:
+                mine[operand] = depth - 1, shared, since
+        elif word in ("acq", "tryacq", "racq", "tryracq"):
+            depth, shared, since = mine.get(operand, (0, word in ("racq", "tryracq"), place))
+            mine[operand] = depth + 1, shared, since
+    return told, {thread: sorted(mine.items()) for thread, mine in held.items()}
+
+
 def is_front_of_a_run(lines):
     """Each thread's lines release only what it holds."""
     depths = {}

@@ -5,6 +5,7 @@ import signal
 import subprocess
 import time
 
+from c_programs import raw_directory
 from following import ORDERS, Live, cycles_in, lines_of, read_report, reported
 from known_traces import TOOLS, read_line, wait_for, wait_until_all_wait
 
@@ -80,6 +81,19 @@ def test_line_every_so_often():
     lines, took = lines_of(), time.monotonic() - start
     assert len(lines) <= took / 0.3 + 1, "%d lines in %.1f s" % (len(lines), took)
     assert all(cycles_in(line) == ORDERS for line in lines[-3:]), str(lines[-3:])
+    live.end(signal.SIGTERM)
+
+
+def test_lines_of_a_thread_that_always_holds_a_lock():
+    """They come as often as was asked for, and what it repeats takes no room."""
+    live = Live("./live", "two_buffers", options=["--every", "0.5"]).is_ready()
+    start = time.monotonic()
+    wait_for(lambda: len(lines_of()) >= 8, "eight lines")
+    took = time.monotonic() - start
+    assert took < 8, "eight lines took %.1f s" % took
+    kept = raw_directory("r.json")
+    size = sum(os.path.getsize(os.path.join(kept, name)) for name in os.listdir(kept))
+    assert size < 512 * 1024, "%d bytes are kept" % size
     live.end(signal.SIGTERM)
 
 

@@ -565,6 +565,18 @@ static void races(void)
     pause();
 }
 
+/* Fills one of two buffers and then the other, and always holds the one that it fills. */
+static void two_buffers(void)
+{
+    pthread_mutex_t *buffers[] = {&a, &b};
+    pthread_mutex_lock(&a);
+    say_ready();
+    for (unsigned turn = 0;; turn++) {
+        pthread_mutex_lock(buffers[(turn + 1) % 2]);
+        pthread_mutex_unlock(buffers[turn % 2]);
+    }
+}
+
 int main(int count, char **arguments)
 {
     static const struct {
@@ -573,7 +585,9 @@ int main(int count, char **arguments)
     } programs[] = {
         {"waits", waits}, {"goes_on", goes_on}, {"comes_later", comes_later}, {"gates", gates}, {"churn", churn},
         {"own_signal", own_signal}, {"forks", forks}, {"repeats", repeats}, {"killed", killed}, {"races", races},
-        {"hangs", hangs}, {"holder_ended", holder_ended}, {"owner_died", owner_died}, {"ring", ring}, {"deletes_itself", deletes_itself}, {"inherits", inherits}, {"joins", joins}, {"joins_in_a_row", joins_in_a_row}, {"ends", ends}, {"child_ends", child_ends}, {"churn_and_gates", churn_and_gates},
+        {"hangs", hangs}, {"holder_ended", holder_ended}, {"owner_died", owner_died}, {"ring", ring}, {"deletes_itself", deletes_itself},
+        {"inherits", inherits}, {"joins", joins}, {"joins_in_a_row", joins_in_a_row}, {"ends", ends}, {"child_ends", child_ends},
+        {"churn_and_gates", churn_and_gates}, {"two_buffers", two_buffers},
     };
     own_file = arguments[0];
     number = count > 2 ? atoi(arguments[2]) : 0;

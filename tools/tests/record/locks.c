@@ -9,6 +9,7 @@
 #include <stdio.h>
 #include <stdlib.h>
 #include <string.h>
+#include <sys/resource.h>
 #include <sys/stat.h>
 #include <sys/syscall.h>
 #include <sys/time.h>
@@ -596,6 +597,79 @@ static void volume(void)
         }
 }
 
+/* --- What comes round ------------------------------------------------------------------------------------- */
+
+/* Walks around four locks, and holds one all the time. */
+static void ring(void)
+{
+    pthread_mutex_lock(&many[0]);                                              /* @ring */
+    for (int i = 0; i < 200001; i++) {
+        pthread_mutex_lock(&many[(i + 1) % 4]);                                /* @ring_next */
+        pthread_mutex_unlock(&many[i % 4]);                                    /* @ring_last */
+    }
+    pthread_mutex_unlock(&many[1]);                                            /* @ring_end */
+}
+
+/* Walks around two locks and then around two others, in turn. */
+static void two_rings(void)
+{
+    pthread_mutex_lock(&many[0]);
+    for (int i = 0; i < 400000; i++) {
+        int here = i / 1000 % 2 * 2 + i % 2, next = (i + 1) / 1000 % 2 * 2 + (i + 1) % 2;
+        pthread_mutex_lock(&many[next]);
+        pthread_mutex_unlock(&many[here]);
+    }
+    pthread_mutex_unlock(&many[0]);
+}
+
+/* Asks again and again for a lock that it has, and isn't deeper in it than before. */
+static void deeper(void)
+{
+    pthread_mutex_lock(&again);                                                /* @deeper */
+    for (int i = 0; i < 100000; i++) {
+        pthread_mutex_lock(&again);                                            /* @deeper_again */
+        pthread_mutex_unlock(&again);                                          /* @deeper_back */
+    }
+    pthread_mutex_unlock(&again);                                              /* @deeper_end */
+}
+
+static void no_thread(void)
+{
+    pthread_attr_t too_large;
+    pthread_t thread;
+    pthread_attr_init(&too_large);
+    pthread_attr_setstacksize(&too_large, (size_t)1 << 46);
+    MUST(pthread_create(&thread, &too_large, quick, NULL) == EAGAIN);
+}
+
+/* Threads that can't be made, with locks held and without. */
+static void no_threads(void)
+{
+    for (int i = 0; i < 1500; i++) {
+        no_thread();
+        pthread_mutex_lock(&a);                                                /* @no_threads_a */
+        no_thread();
+        pthread_mutex_lock(&b);                                                /* @no_threads_b */
+        no_thread();
+        pthread_mutex_unlock(&a);                                              /* @no_threads_a_end */
+        pthread_mutex_unlock(&b);                                              /* @no_threads_b_end */
+    }
+}
+
+/* The same where many events are known. */
+static void no_threads_amid_many(void)
+{
+    for (int i = 0; i < 20; i++) {
+        no_thread();
+        for (int k = 0; k < 34 * 34; k++) {
+            pthread_mutex_lock(&many[k / 34]);
+            pthread_mutex_lock(&many[34 + k % 34]);
+            pthread_mutex_unlock(&many[34 + k % 34]);
+            pthread_mutex_unlock(&many[k / 34]);
+        }
+    }
+}
+
 /* The last thread comes when there may be no room left. */
 static void volume_and_thread(void)
 {
@@ -611,6 +685,35 @@ static void volume_and_wait(void)
     one_pair();
     say_ready();
     pause();
+}
+
+/* Fills all the room that there is, without a file for more. */
+static void *takes_all_room(void *unused)
+{
+    static pthread_mutex_t crowd[40000];
+    pthread_mutex_lock(&a);                                                    /* @takes_all_room */
+    pthread_mutex_unlock(&a);
+    for (int i = 0; i < 40000; i++)
+        pthread_mutex_unlock(&crowd[i]);
+    return unused;
+}
+
+/* Repeats something at each place of its chunk, up to the last one, behind which there is the other thread's. */
+static void no_files(void)
+{
+    static pthread_mutex_t crowd[1000];
+    struct rlimit none = {0, 0};
+    pthread_t thread;
+    MUST(setrlimit(RLIMIT_NOFILE, &none) == 0);
+    pthread_create(&thread, NULL, takes_all_room, NULL);
+    pthread_join(thread, NULL);
+    for (int i = 0; i < 1000; i++) {
+        pthread_mutex_lock(&a);
+        pthread_mutex_lock(&b);
+        pthread_mutex_unlock(&b);
+        pthread_mutex_unlock(&a);
+        pthread_mutex_unlock(&crowd[i]);
+    }
 }
 
 static void many_threads(void)
@@ -867,8 +970,10 @@ static const struct {
     {"upgrade", upgrade}, {"again_plain", again_plain}, {"handed_over", handed_over}, {"beyond", beyond}, {"gives_up_root", gives_up_root},
     {"hides_its_files", hides_its_files}, {"cancelled_in_once", cancelled_in_once},
     {"many_locks", many_locks}, {"waits_in_background", waits_in_background}, {"stray", stray}, {"keys", keys}, {"signals", signals}, {"signal_storm", signal_storm},
+    {"ring", ring}, {"two_rings", two_rings}, {"deeper", deeper}, {"no_threads", no_threads},
+    {"no_threads_amid_many", no_threads_amid_many},
     {"repeats", repeats}, {"volume", volume}, {"volume_and_wait", volume_and_wait}, {"volume_and_thread", volume_and_thread},
-    {"many_threads", many_threads}, {"forks", forks},
+    {"no_files", no_files}, {"many_threads", many_threads}, {"forks", forks},
     {"parent_goes_on", parent_goes_on}, {"raw_fork", raw_fork}, {"executes", executes}, {"clears_environment", clears_environment},
     {"goes_to_background", goes_to_background}, {"waits_for_signal", waits_for_signal}, {"frames", frames}, {"frames_vary", frames_vary},
     {"table", table}, {"nothing", nothing},

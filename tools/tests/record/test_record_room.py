@@ -6,7 +6,7 @@ import subprocess
 
 import pytest
 from c_programs import NO_DISK, SmallDisk
-from c_traces import convert, record
+from c_traces import convert, known, record
 from known_traces import LIMIT, NO_EVENTS, RECORD, REFUSED, read_lines
 
 
@@ -86,6 +86,17 @@ def test_limit_of_file_sizes_that_leaves_room(limit):
     assert run.status == 0, "%d: %s" % (run.status, run.said)
     lines = run.lines(run.files()[-1][len("t.std") :])
     assert len(lines) >= 4 * 224 * 224 and "lost" not in run.said, "%d lines: %s" % (len(lines), run.said)
+
+
+def test_no_file_can_be_opened():
+    """The reason is told. What one thread repeats where its room ends leaves the other's events alone, which are behind it."""
+    run = record("./locks", "no_files")
+    assert run.status == 0, "%d: %s" % (run.status, run.said)
+    assert re.search(r"\d+ events were lost: Too many open files\n", run.said), run.said
+    assert "no room" not in run.said, run.said
+    (first,) = known("main.1:takes_all_room|acq(a)|@takes_all_room")
+    theirs = [line for line in run.lines() if line.startswith("main.1:")]
+    assert theirs[:1] == [first] and len(theirs) > 5000, "%d lines: %s" % (len(theirs), theirs[:1])
 
 
 def test_limit_of_file_sizes_that_leaves_none():
