@@ -111,6 +111,27 @@ def threads_that_look_for_edges(program):
         program.expect(f"{words} --jobs 2 starts no thread for 16,200 events, not {got}", got == 0)
 
 
+def dense_trace(sections):
+    """A trace whose search takes long: eight threads, of which half take locks in another order, under one of two gate locks."""
+    made = [sys.executable, HERE.parents[1] / "bench/make_trace.py", "--shape", "two-orders", "--sections", sections]
+    return subprocess.run(made, stdout=subprocess.PIPE, check=True).stdout
+
+
+def threads_that_search(program):
+    """One thread where one is asked for; else some where the search takes long, though the text is small."""
+    cycles, findings = dense_trace("1000"), dense_trace("300")
+    for words, trace in (
+        ("predict", cycles),
+        ("predict --json", cycles),
+        ("predict --findings --len 3", findings),
+        ("stats", cycles),
+    ):
+        got = program.counts(f"{words} --jobs 1", trace)[0]
+        program.expect(f"{words} --jobs 1 starts no thread for a long search, not {got}", got == 0)
+        got = program.counts(f"{words} --jobs 2", trace)[0]
+        program.expect(f"{words} --jobs 2 starts threads for a long search", got > 0)
+
+
 def room_of(program, words, few, many, trace=trace_of(2)):
     """The bytes that are asked for more where a number in the words is the greater one."""
     return program.counts(words.format(many), trace)[1] - program.counts(words.format(few), trace)[1]
@@ -146,6 +167,7 @@ def main():
         threads_of_sessions(program)
         threads_that_read(program)
         threads_that_look_for_edges(program)
+        threads_that_search(program)
         rings_of_sessions(program)
     print(f"{program.passed} passed, {program.failed} failed")
     return 1 if program.failed else 0
