@@ -525,7 +525,9 @@ def main():
     parser.add_argument("--seed", type=int, default=1)
     parser.add_argument("--threads", type=int, help="at most 1,024")
     parser.add_argument("--locks", type=int)
-    parser.add_argument("--depth", type=int, help="most locks of a block, at most 64; layers, or locks below one of a tree")
+    parser.add_argument(
+        "--depth", type=int, help="most locks of a block, at most 64; layers, or locks below one of a tree"
+    )
     parser.add_argument("--sections", type=int, help="pieces of code, each with its locks")
     parser.add_argument("--disorder", type=float, help="share of the pieces that take locks in any order")
     parser.add_argument("--shared", type=float, help="share of the locks of each piece that are taken in shared mode")

@@ -1,5 +1,5 @@
-// Tests that the locks and threads of goodlock.hpp have the forms of std's, in C++11 and later: how they are made, native_handle,
-// limits of time, readers, and a thread's id, swap and handle.
+// Tests that the locks and threads of goodlock.hpp have the forms of std's, in C++11 and later: how they are made,
+// native_handle, limits of time, readers, and a thread's id, swap and handle.
 //
 // What isn't as it has to be is told; the last line is how many checks passed and failed.
 #include "goodlock.hpp"
@@ -90,7 +90,8 @@ static void with_limits(goodlock::timed_mutex &timed, goodlock::recursive_timed_
         });
 #line 96 "tests/library/forms.cc"
     goodlock::guard<goodlock::timed_mutex> outer(timed);
-    std::unique_lock<goodlock::recursive_timed_mutex> first(again, moment), second(again, std::chrono::steady_clock::now());
+    std::unique_lock<goodlock::recursive_timed_mutex> first(again, moment),
+        second(again, std::chrono::steady_clock::now());
     check(first.owns_lock() && second.owns_lock(), "a recursive timed mutex, twice");
     goodlock::thread other([&] {
         check(!timed.try_lock_for(moment), "a timed mutex that another thread holds");

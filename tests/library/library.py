@@ -264,9 +264,7 @@ class Tests:
     def alone(self):
         languages = [("c", "c11", "gcc"), ("c", "c11", "clang"), ("c", "c99", "gcc"), ("c", "c17", "gcc")]
         languages += [
-            ("c++", standard, tool)
-            for standard in ("c++11", "c++14", "c++17", "c++20")
-            for tool in ("g++", "clang++")
+            ("c++", standard, tool) for standard in ("c++11", "c++14", "c++17", "c++20") for tool in ("g++", "clang++")
         ]
         for language, standard, compiler in languages:
             name = f"the header as {standard} by {compiler}"

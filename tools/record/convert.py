@@ -34,7 +34,7 @@ NO_KINDS = (0,) * KINDS
 JOIN, UPGRADE, BEYOND, AGAIN = 8, 9, 10, 11
 NO_THREAD = 0xFFFFFFFFFFFFFFFF
 THREAD_LIMIT = 1024  # goodlock reads no more threads
-NO_ROOM = (0, errno.ENOSPC, errno.EFAULT)  # the last is what some file systems say of memory that they can't give a block
+NO_ROOM = (0, errno.ENOSPC, errno.EFAULT)  # some file systems say the last of memory that they give no block
 EXAMPLES = 256  # how many threads at most are in all windows for what they do
 PIECE = 1 << 16  # words that are looked at at once
 KIND_AND_SITE = 0 if sys.byteorder == "little" else 1  # which half of a word has these

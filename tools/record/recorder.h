@@ -368,7 +368,7 @@ struct segment {
     uint64_t first_keys[KEYS_FIRST];
 };
 
-/* A fork or join: what comes after it is another segment. The one before is dropped then, or, in a slow part, goes on. */
+/* A fork or join: what comes after is another segment. The one before is dropped then, or, in a slow part, goes on. */
 void segment_end(struct thread *thread, struct segment *before);
 void segment_drop(struct thread *thread, const struct segment *before);
 void segment_go_on(struct thread *thread, const struct segment *before);
@@ -539,7 +539,7 @@ static inline __attribute__((always_inline)) uint64_t *acquire_add(struct thread
     return thread->levels[count].place = word_store(thread, word);
 }
 
-/* Between these two the words and what is held don't fit: a signal handler in there looks for no moment to go back to. */
+/* Between these two the words and what is held don't fit: a signal handler there looks for no moment to go back to. */
 static inline uint32_t change_begin(struct thread *thread)
 {
     uint32_t outside = thread->inside;

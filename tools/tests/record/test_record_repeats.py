@@ -51,9 +51,7 @@ def test_what_comes_round_is_left_out(seed):
 def test_hand_over_hand():
     """The first round, which ends by the first lock at another place, and the last steps."""
     walk = ["", "+0x28", "+0x50", "+0x78", "", "+0x28"]
-    steps = [
-        "\nmain|acq(many%s)|@ring_next\nmain|rel(many%s)|@ring_last" % (walk[i + 1], walk[i]) for i in range(5)
-    ]
+    steps = ["\nmain|acq(many%s)|@ring_next\nmain|rel(many%s)|@ring_last" % (walk[i + 1], walk[i]) for i in range(5)]
     run = expect("ring", "main|acq(many)|@ring" + "".join(steps) + "\nmain|rel(many+0x28)|@ring_end")
     assert "and %d of repeats" % (2 * (200001 - 5)) in run.said, run.said
 
