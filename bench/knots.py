@@ -95,7 +95,7 @@ SHAPES = {
     # Each edge leads on to thousands, and hardly any path comes back: ways that lead nowhere are to be seen early.
     "tree": {
         "small": ["--threads 300 --locks 10 --depth 9 --segments 3", "--locks 10 --depth 9 --segments 3"],
-        "large": ["", "--locks 64 --depth 63", "--threads 100 --locks 6 --depth 1 ask --len 6"],
+        "large": ["", "--locks 64 --depth 63"],
     },
     "layers": {"small": ["--sections 4000"], "large": ["", "--threads 16 --depth 5 --locks 40 ask --len 4"]},
     "colliding-names": {"small": ["--locks 10000"], "large": ["--locks 100000"]},
