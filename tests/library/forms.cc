@@ -2,21 +2,7 @@
 // native_handle, limits of time, readers, and a thread's id, swap and handle.
 //
 // What isn't as it has to be is told; the last line is how many checks passed and failed.
-#include "goodlock.hpp"
-
-#include <cstdio>
-
-static unsigned passed, failed;
-
-static void check(bool is_right, const std::string &what)
-{
-    if (is_right) {
-        passed++;
-        return;
-    }
-    failed++;
-    std::printf("%s\n", what.c_str());
-}
+#include "checks.hpp"
 
 struct account {
     goodlock::mutex mutex;
@@ -47,23 +33,6 @@ static void made()
     one.shared.unlock();
 }
 
-// Threads that all start before any of them works: joins and forks keep none of them apart.
-template <class F, class G> static void one_by_one(F first, G second)
-{
-    std::atomic<int> turn{0};
-    goodlock::thread one([&] {
-        first();
-        turn = 1;
-    });
-    goodlock::thread other([&] {
-        while (turn != 1)
-            std::this_thread::yield();
-        second();
-    });
-    one.join();
-    other.join();
-}
-
 static const char *const RIGHT = "cycle 1: 2 edges\n"
                                  "  T1 holds timed since forms:2 wants c at forms:3\n"
                                  "  T2 holds c since forms:4 wants timed at forms:5\n"
@@ -88,7 +57,7 @@ static void with_limits(goodlock::timed_mutex &timed, goodlock::recursive_timed_
             goodlock::guard<goodlock::mutex> outer(c);
             goodlock::guard<goodlock::timed_mutex> inner(timed);
         });
-#line 96 "tests/library/forms.cc"
+#line 61 "tests/library/forms.cc"
     goodlock::guard<goodlock::timed_mutex> outer(timed);
     std::unique_lock<goodlock::recursive_timed_mutex> first(again, moment),
         second(again, std::chrono::steady_clock::now());
@@ -113,7 +82,7 @@ static void with_readers(goodlock::shared_mutex &r, goodlock::shared_mutex &w)
             goodlock::guard<goodlock::shared_mutex> first(w);
             goodlock::guard<goodlock::shared_mutex> second(r);
         });
-#line 120 "tests/library/forms.cc"
+#line 86 "tests/library/forms.cc"
     goodlock::shared_guard<goodlock::shared_mutex> reader(r);
     check(r.try_lock_shared(), "a second reader");
     check(!r.try_lock(), "no writer beside readers");

@@ -8,25 +8,12 @@
 //
 // Memory is refused by the linker's --wrap of malloc, calloc, realloc and aligned_alloc. What isn't as it has to be is
 // told; the last line is how many checks passed and failed.
-#include "goodlock.hpp"
+#include "checks.hpp"
 #include "refusing.h"
 
 #include <condition_variable>
-#include <cstdio>
 #include <cstring>
 #include <memory>
-
-static unsigned passed, failed;
-
-static void check(bool is_right, const std::string &what)
-{
-    if (is_right) {
-        passed++;
-        return;
-    }
-    failed++;
-    std::printf("%s\n", what.c_str());
-}
 
 // Locks and unlocks before the session and after it are std's.
 static void without_a_session()
@@ -50,23 +37,6 @@ template <class F> static void in_a_thread(F work)
 {
     goodlock::thread thread(work);
     thread.join();
-}
-
-// Threads that all start before any of them works: joins and forks keep none of them apart.
-template <class F, class G> static void one_by_one(F first, G second)
-{
-    std::atomic<int> turn{0};
-    goodlock::thread one([&] {
-        first();
-        turn = 1;
-    });
-    goodlock::thread other([&] {
-        while (turn != 1)
-            std::this_thread::yield();
-        second();
-    });
-    one.join();
-    other.join();
 }
 
 static const char *const RIGHT = "cycle 1: 2 edges\n"
@@ -106,7 +76,7 @@ template <class M, class N> static void opposite(M &one, N &other)
             one.unlock();
         });
 }
-#line 110 "tests/library/wrapper.cc"
+#line 80 "tests/library/wrapper.cc"
 
 static void locks()
 {
@@ -145,7 +115,7 @@ static void locks()
             goodlock::guard<goodlock::shared_mutex> first(w);
             r.lock();
             r.unlock();
-#line 149 "tests/library/wrapper.cc"
+#line 119 "tests/library/wrapper.cc"
         });
     goodlock::recursive_mutex x, y;
     in_a_thread([&] { std::lock_guard<goodlock::recursive_mutex> first(x), again(x), second(y); });
