@@ -111,15 +111,17 @@ def threads_that_look_for_edges(program):
         program.expect(f"{words} --jobs 2 starts no thread for 16,200 events, not {got}", got == 0)
 
 
-def dense_trace(sections):
-    """A trace whose search takes long: eight threads, of which half take locks in another order, under one of two gate locks."""
-    made = [sys.executable, HERE.parents[1] / "bench/make_trace.py", "--shape", "two-orders", "--sections", sections]
+def made_trace(options):
+    made = [sys.executable, HERE.parents[1] / "bench/make_trace.py", *options.split()]
     return subprocess.run(made, stdout=subprocess.PIPE, check=True).stdout
 
 
 def threads_that_search(program):
     """One thread where one is asked for; else some where the search takes long, though the text is small."""
-    cycles, findings = dense_trace("1000"), dense_trace("300")
+    # threads of which each is joined before the next one is forked, which the order of segments alone tells
+    cycles = made_trace("--shape windows --threads 100 --locks 20 --sections 300 --at-once 1")
+    # threads of which half take locks in another order, under one of two gate locks
+    findings = made_trace("--shape two-orders --sections 300")
     for words, trace in (
         ("predict", cycles),
         ("predict --json", cycles),

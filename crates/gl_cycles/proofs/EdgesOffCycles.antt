@@ -19,7 +19,7 @@ use Rattle.gl_cycles.proofs.CyclesAreLevel.{picked_among}
 use Rattle.gl_cycles.proofs.AmongAllCycles.{lists_from}
 
 -- nothing passes where none of the lists that begin so does
-filter-none_of : (p : List ℕ → Bool) (front : List ℕ) (ls : List (List ℕ)) → ((rest : List ℕ) → Contains ls rest → p (front ++ rest) ≡ false) → filter p (map (λ rest. front ++ rest) ls) ≡ []
+pub filter-none_of : (p : List ℕ → Bool) (front : List ℕ) (ls : List (List ℕ)) → ((rest : List ℕ) → Contains ls rest → p (front ++ rest) ≡ false) → filter p (map (λ rest. front ++ rest) ls) ≡ []
 filter-none_of p front [] none = refl
 filter-none_of p front (l ∷ ls) none = rw (none l (contains_here l ls)) (filter-none_of p front ls (λ rest at. none rest (contains_later l rest ls at)))
 

@@ -12,3 +12,4 @@ pub mod WholeTrims
 pub mod RootByRoot
 pub mod TrimsSpareCycles
 pub mod RootsJoined
+pub mod NoLonger

@@ -24,7 +24,8 @@ use std::thread::Threads;
 ///
 /// To leave out others takes no more steps than some for each that the search took before, but in the last
 /// round as many as each reason takes at most. There may be as many paths as the edges that stay to the
-/// power of the greatest length of a cycle less one.
+/// power of the greatest length of a cycle less one. That length is the query's, or
+/// [how many edges a cycle can have](gl_pruning::Sought::shortened), where that is less.
 ///
 /// Err where memory was refused.
 pub fn search(
@@ -43,8 +44,8 @@ pub fn search(
 }
 
 /// The same as [`search`], on several threads. The steps that a search takes before more edges are left
-/// out are taken in one thread, and so is what leaves them out with as much effort; where that would be many, this is passed
-/// over. The last time edges
+/// out are taken in one thread, behind the first some millions at a time at most, and so is what leaves them out with as much
+/// effort. The last time edges
 /// are dealt out to parts, each of which leaves out some of its own. Then each edge from the one on where the search stands is
 /// the first of paths, and the edges are dealt out in runs: the first few to one thread, and then each
 /// time as many as were dealt out before, in pieces of one length. The search ends after the run in

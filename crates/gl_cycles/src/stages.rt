@@ -11,8 +11,8 @@
 //!
 //! In each round edges are left out for one reason after the other. Before the last round the efforts
 //! are bound, so what comes too dear is tried again. In the last one edges are left out with all the
-//! effort that each reason makes at most, and the search then goes on to its end, on several threads if there are any. As a
-//! round goes on in one thread, those that have many steps are passed over then.
+//! effort that each reason makes at most, and again as long as that leaves out many, and the search then goes on to its end, on
+//! several threads if there are any. As a round goes on in one thread, it has so many steps at most then.
 ghost use Rattle.std.specs.Prelude.{◌≡◌, ◌<◌, ◌≤◌, ◌*◌, ◌-◌, ◌^◌, min, max, take, IfOk, OnOk};
 ghost use Rattle.gl_segments.specs.Clocks.{is_before};
 ghost use Rattle.gl_filters.specs.Picked.{edges_of_table};
@@ -32,9 +32,9 @@ use std::thread::Threads;
 // The number of the last round, from 0.
 const LAST: usize = 1;
 
-// How many steps a round has at most where there are several threads: one of them takes so many in no more time than it
-// takes to leave out edges with all the effort, and what needs more is dealt out.
-const STEPS_ALONE: usize = 8_000_000;
+// How many steps a round has at most where there are several threads, as it goes on in one of them: what needs more is
+// dealt out.
+const STEPS_ALONE: usize = 32_000_000;
 
 // How many steps a search has at first for each edge, and how many at least.
 const STEPS_OF_EDGE: usize = 64;
@@ -43,6 +43,12 @@ const STEPS: usize = 10_000;
 
 // How many times the steps of the round before each round has.
 const GROWTH: usize = 8;
+
+// How many times edges are left out with all the effort at most.
+const PASSES: usize = 3;
+
+// Of how many edges one is to be left out, so that leaving out once more may pay.
+const WORTH: usize = 2;
 
 // How many steps are worth the effort for each reason of one: there are several reasons, and each takes
 // as much effort twice.
@@ -92,8 +98,8 @@ fn search_on(
     search.go_on(alloc, effort, from, found)
 }
 
-// Searches in rounds of no more than so many steps after the first, and leaves edges out between them. The root at which the
-// search stands then.
+// Searches in rounds, each of no more than so many steps but the first, and leaves edges out between them. One that
+// wouldn't have more steps than the one before is passed over. The root at which the search stands then.
 fn search_in_rounds(
     alloc: Global,
     sought: &Sought<'_>,
@@ -114,16 +120,65 @@ fn search_in_rounds(
     for round in 0..LAST {
         let steps = steps_of(round, sought.table.len());
         root = search_on(alloc, sought, cap, steps, kept, root, found)?;
-        if root >= sought.table.len() || steps_of(round + 1, sought.table.len()) > most {
+        if root >= sought.table.len() || most <= steps {
             return Ok(root);
         }
         sought.leave_out_in_turn(alloc, effort_of(steps), kept)?;
     }
-    let steps = steps_of(LAST, sought.table.len());
+    let steps = steps_of(LAST, sought.table.len()).min(most);
     search_on(alloc, sought, cap, steps, kept, root, found)
 }
 
-/// The first cycles that are sought, up to a cap.
+// How many edges are kept.
+fn count_kept(kept: &[bool]) -> usize {
+    kept.iter().filter(|&&is_kept| is_kept).count()
+}
+
+// Leaves out edges with all the effort, and again as long as many go: the same effort gets further then.
+fn leave_out_all(alloc: Global, sought: &Sought<'_>, kept: &mut Vec<bool>) -> Result<(), Memory>
+    requires kept { KeepsSought sought.now kept.old.items }
+    ensures kept { OnOk result (KeepsSought sought.now kept.new.items) }
+{
+    for _ in 0..PASSES {
+        let before = count_kept(kept);
+        sought.leave_out_in_turn(alloc, ALL_EFFORT, kept)?;
+        let gone = before.saturating_sub(count_kept(kept));
+        if gone < before / WORTH || gone == 0 {
+            return Ok(());
+        }
+    }
+    Ok(())
+}
+
+// The first cycles that are sought, up to a cap, among the edges that are kept.
+fn first_among(
+    alloc: Global,
+    sought: &Sought<'_>,
+    cap: usize,
+    kept: Vec<bool>,
+) -> Result<Vec<Vec<usize>>, Memory>
+    requires some { 0 < sought.now.len }
+    requires fits { sought.now.len ≤ LONGEST }
+    requires kept { KeepsSought sought.now kept.items }
+    ensures { IfOk result
+        (λ found. cycles_in found.items
+        ≡ take cap
+        (all_cycles (is_before sought.now.order.now) sought.now.mode sought.now.len
+        (edges_of_table sought.now.table.now))) }
+{
+    let mut kept = kept;
+    let mut found = Vec::new(alloc);
+    let root = search_in_rounds(alloc, sought, cap, usize::MAX, &mut kept, &mut found)?;
+    if root >= sought.table.len() {
+        return Ok(found);
+    }
+    leave_out_all(alloc, sought, &mut kept)?;
+    let search = Searcher::of(alloc, sought, cap, false, kept)?;
+    search.first_cycles(alloc, root, found)
+}
+
+/// The first cycles that are sought, up to a cap. Paths grow no longer than cycles can be, as far as
+/// [that is soon seen](Sought::shortened).
 pub(crate) fn first_cycles(
     alloc: Global,
     sought: &Sought<'_>,
@@ -137,19 +192,41 @@ pub(crate) fn first_cycles(
         (all_cycles (is_before sought.now.order.now) sought.now.mode sought.now.len
         (edges_of_table sought.now.table.now))) }
 {
-    let mut kept = sought.kept_at_first(alloc)?;
+    let kept = sought.kept_at_first(alloc)?;
+    let shorter = sought.shortened(alloc, &kept)?;
+    first_among(alloc, &shorter, cap, kept)
+}
+
+// The same on several threads.
+fn first_among_parallel(
+    rt: &(impl Threads + Sync),
+    alloc: Global,
+    sought: &Sought<'_>,
+    cap: usize,
+    kept: Vec<bool>,
+) -> Result<Vec<Vec<usize>>, Memory>
+    requires some { 0 < sought.now.len }
+    requires fits { sought.now.len ≤ LONGEST }
+    requires kept { KeepsSought sought.now kept.items }
+    ensures { IfOk result
+        (λ found. cycles_in found.items
+        ≡ take cap
+        (all_cycles (is_before sought.now.order.now) sought.now.mode sought.now.len
+        (edges_of_table sought.now.table.now))) }
+{
+    let mut kept = kept;
     let mut found = Vec::new(alloc);
-    let root = search_in_rounds(alloc, sought, cap, usize::MAX, &mut kept, &mut found)?;
+    let root = search_in_rounds(alloc, sought, cap, STEPS_ALONE, &mut kept, &mut found)?;
     if root >= sought.table.len() {
         return Ok(found);
     }
-    sought.leave_out_in_turn(alloc, ALL_EFFORT, &mut kept)?;
+    leave_out_in_turn_parallel(rt, alloc, sought, ALL_EFFORT, &mut kept)?;
     let search = Searcher::of(alloc, sought, cap, false, kept)?;
-    search.first_cycles(alloc, root, found)
+    parallel::first_cycles(rt, alloc, &search, root, found)
 }
 
 /// The same as [`first_cycles`], on several threads. Rounds are gone through in one thread: each part of the edges would
-/// take as long to begin as all of them. So they end before one that has many steps.
+/// take as long to begin as all of them. So none but the first has many steps.
 pub(crate) fn first_cycles_parallel(
     rt: &(impl Threads + Sync),
     alloc: Global,
@@ -164,13 +241,7 @@ pub(crate) fn first_cycles_parallel(
         (all_cycles (is_before sought.now.order.now) sought.now.mode sought.now.len
         (edges_of_table sought.now.table.now))) }
 {
-    let mut kept = sought.kept_at_first(alloc)?;
-    let mut found = Vec::new(alloc);
-    let root = search_in_rounds(alloc, sought, cap, STEPS_ALONE, &mut kept, &mut found)?;
-    if root >= sought.table.len() {
-        return Ok(found);
-    }
-    leave_out_in_turn_parallel(rt, alloc, sought, ALL_EFFORT, &mut kept)?;
-    let search = Searcher::of(alloc, sought, cap, false, kept)?;
-    parallel::first_cycles(rt, alloc, &search, root, found)
+    let kept = sought.kept_at_first(alloc)?;
+    let shorter = sought.shortened(alloc, &kept)?;
+    first_among_parallel(rt, alloc, &shorter, cap, kept)
 }

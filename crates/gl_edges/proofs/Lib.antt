@@ -1,6 +1,7 @@
 pub mod Orders
 pub mod Guarding
 pub mod Clashing
+pub mod Marked
 pub mod Numbering
 pub mod Membership
 pub mod Least

@@ -2,6 +2,7 @@
 pub mod Batches
 pub mod Clashing
 pub mod Gatherers
+pub mod Marking
 pub mod Numberers
 pub mod Seen
 pub mod Sharing

@@ -4,8 +4,10 @@ ghost use Rattle.std.specs.Cmp.{partial_equiv_from_equiv, po};
 ghost use Rattle.std.specs.Cmp.Lexicographic.{pointwise, slice_cmp, lists_equiv, lists_ties, lists_total};
 ghost use Rattle.std.specs.List.Sorted.{IsStrictlySortedBy};
 ghost use Rattle.std.specs.Ordering.{as_partial_cmp};
+ghost use Rattle.gl_edges.specs.bodies.Marking.{AreMarksOf};
 ghost use Rattle.gl_edges.specs.Guards.{guard_cmp, guard_eq, guard_equiv, guard_ties, guard_total, ascending_guards, guards_of};
 
+use crate::marks::Marks;
 use gl_event::{HeldEntry, LockId, LockMode, Memory};
 use smallvec::SmallVec;
 use std::alloc::Global;
@@ -27,19 +29,20 @@ pub struct Guard {
 #[derive(Drop, Debug)]
 pub struct Guards {
     locks: SmallVec<Guard, INLINE>,
+    // what most questions about two sets are answered by
+    marks: Marks,
 }
 
 impl Model for Guards {
     ghost use Rattle.std.specs.Prelude.{List};
-    ghost use Rattle.std.specs.List.Sorted.{IsStrictlySortedBy};
-    ghost use Rattle.gl_edges.specs.Guards.{guard_cmp};
+    ghost use Rattle.gl_edges.specs.bodies.Marking.{AreSetWith};
     ghost use Rattle.gl_edges.specs.declared.guards.Guard.{Guard};
 
     ghost Value = { List Guard };
 
     ghost view = { λ g. g.locks.items };
 
-    ghost invariant = { λ g. IsStrictlySortedBy guard_cmp g.locks.items };
+    ghost invariant = { λ g. AreSetWith g.marks g.locks.items };
 }
 
 impl Guards {
@@ -50,8 +53,10 @@ impl Guards {
         let mut locks = locks;
         locks.sort_unstable();
         locks.dedup();
+        let marks = Marks::of(&locks);
         Guards {
             locks: SmallVec::from_vec(locks),
+            marks,
         }
     }
 
@@ -70,6 +75,7 @@ impl Guards {
     {
         Guards {
             locks: SmallVec::new(alloc),
+            marks: Marks::none(),
         }
     }
 
@@ -80,9 +86,13 @@ impl Guards {
         ensures in_place { length entries.now ≤ 2 → IsOk result }
     {
         match fill(&mut self.locks, entries) {
-            Ok(()) => Ok(()),
+            Ok(()) => {
+                self.marks = Marks::of(self.locks.as_slice());
+                Ok(())
+            }
             Err(refused) => {
                 self.locks.clear();
+                self.marks = Marks::none();
                 Err(refused)
             }
         }
@@ -94,7 +104,8 @@ impl Guards {
         ensures in_place { length self.now ≤ 2 → IsOk result }
     {
         let locks = SmallVec::from_slice(alloc, self.locks.as_slice())?;
-        Ok(Guards { locks })
+        let marks = self.marks;
+        Ok(Guards { locks, marks })
     }
 
     /// The locks with their modes, ascending.
@@ -103,6 +114,13 @@ impl Guards {
         ensures ascending { IsStrictlySortedBy guard_cmp self.now }
     {
         self.locks.as_slice()
+    }
+
+    /// The marks of these locks.
+    pub(crate) fn marks(&self) -> Marks
+        ensures { AreMarksOf result self.now }
+    {
+        self.marks
     }
 }
 

@@ -24,6 +24,7 @@ mod guard_sets;
 mod guards;
 mod laws;
 mod list;
+mod marks;
 mod numberer;
 mod parallel;
 mod seen;

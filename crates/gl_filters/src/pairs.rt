@@ -29,8 +29,8 @@ pub fn leads_on(e: &Edge, f: &Edge) -> bool
 }
 
 impl Mode {
-    // Whether guard sets of a cycle's edges have no gate lock.
-    pub(crate) fn asks_guards(self) -> bool
+    /// Whether guard sets of a cycle's edges have no gate lock: from Guarded on.
+    pub fn asks_guards(self) -> bool
         ensures { result ≡ asks_guards self }
     {
         match self {

@@ -8,3 +8,4 @@ pub mod ByKinds
 pub mod Closing
 pub mod Fewer
 pub mod OfOneKind
+pub mod NotLonger

@@ -21,6 +21,7 @@ mod alone;
 mod candidates;
 mod components;
 mod dead_ends;
+mod exclusions;
 mod far;
 mod grains;
 mod kinds;

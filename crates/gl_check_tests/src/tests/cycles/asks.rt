@@ -2,6 +2,7 @@
 use gl_cycles::{Found, Trimmed};
 use gl_filters::{Mode, Query};
 use gl_findings::ClassCounts;
+use gl_pruning::Sought;
 use gl_worked::cycles::are_cycles;
 use gl_worked::known::Known;
 use std::alloc::Global;
@@ -22,6 +23,8 @@ pub(super) enum Ask {
     Sought(Mode, u32, &'static [bool]),
     // how many may
     Count(Mode, u32, usize),
+    // how many edges a cycle of the mode can have, of at most so many, as far as threads and gate locks tell
+    Longest(Mode, u32, usize),
     // which edges trimming keeps in the mode, and which it removes, in this order
     Trimmed(Mode, &'static [usize], &'static [usize]),
     // which edges may lie on a loop
@@ -41,6 +44,7 @@ pub(super) fn answers<R: Threads + Sync>(rt: &R, alloc: Global, known: &Known, a
         Ask::Parallel(max, wanted, more) => finds_parallel(rt, alloc, known, max, wanted, more),
         Ask::Sought(mode, len, wanted) => is_sought(rt, alloc, known, (mode, len), wanted),
         Ask::Count(mode, len, wanted) => is_count(rt, alloc, known, (mode, len), wanted),
+        Ask::Longest(mode, len, wanted) => longest(alloc, known, (mode, len)) == Some(wanted),
         Ask::Trimmed(mode, kept, removed) => is_trimmed(alloc, known, mode, kept, removed),
         Ask::OnLoops(wanted) => is_on_loops(alloc, known, wanted),
         Ask::Findings(mode, len, max, wanted, more) => {
@@ -143,6 +147,15 @@ fn is_by_parts<R: Threads + Sync>(
         Some(flags) => flags.as_slice() == wanted,
         None => false,
     }
+}
+
+// How many edges a cycle can have.
+fn longest(alloc: Global, known: &Known, asked: (Mode, u32)) -> Option<usize> {
+    let query = query_for((asked.0, asked.1, 1))?;
+    let sought = Sought::of(&known.edges, &known.order, &query);
+    let kept = sought.kept_at_first(alloc).ok()?;
+    let shorter = sought.shortened(alloc, &kept).ok()?;
+    Some(shorter.len)
 }
 
 // Whether one thread finds these and several find the same.

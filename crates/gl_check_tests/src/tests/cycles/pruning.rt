@@ -16,12 +16,26 @@ const CASES: &[Case] = &[
             Ask::Count(Mode::Guarded, 4, 0),
         ],
     },
+    // A cycle has one edge of each of four threads at most, and one under each of two gate locks.
+    Case {
+        name: "kinds_of_no_round, how long",
+        lists: UnderGates(4, 4, &[4, 5]),
+        asks: &[
+            Ask::Longest(Mode::Basic, 8, 4),
+            Ask::Longest(Mode::Basic, 3, 3),
+            Ask::Longest(Mode::Guarded, 8, 2),
+            Ask::Longest(Mode::Full, 8, 2),
+        ],
+    },
     // Round the ring go four edges, of four threads. Each edge goes with edges of two others that lead
     // back from it, but three threads make no cycle, in whichever of their segments; four do.
     Case {
         name: "more_pieces_than_threads",
         lists: Rings(3),
-        asks: &[Ask::Count(Mode::Basic, 4, 0)],
+        asks: &[
+            Ask::Count(Mode::Basic, 4, 0),
+            Ask::Longest(Mode::Basic, 4, 3),
+        ],
     },
     Case {
         name: "more_pieces_than_threads, as many",
@@ -142,6 +156,8 @@ const ONE_GATE_BY_PARTS: Case = Case {
     asks: &[
         Ask::Count(Mode::Guarded, 4, 0),
         Ask::Count(Mode::Basic, 4, 1_020),
+        Ask::Longest(Mode::Guarded, 4, 1),
+        Ask::Longest(Mode::Basic, 4, 4),
     ],
 };
 

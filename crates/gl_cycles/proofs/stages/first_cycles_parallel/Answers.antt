@@ -1,7 +1,11 @@
-use Rattle.std.proofs.Common.{arith}
-use Rattle.gl_cycles.proofs.RootByRoot.{all_found}
+use Rattle.std.specs.Prelude.{⊤}
+use Rattle.gl_pruning.proofs.Answered.{if_ok}
+use Rattle.gl_cycles.specs.Cycles.{cycles_in}
+use Rattle.gl_cycles.proofs.NoLonger.{AreFirst, first_of_shorter}
 use Rattle.gl_cycles.proofs.stages.first_cycles_parallel.Goals as goal
 
--- the search is through
-pub returns-then-root-sought : goal.returns-then-root-sought
-returns-then-root-sought g c = all_found c.args.sought.now c.args.cap c.in_ok-root.root _ c.requires.some (omega arith) c.in_ok-root.ensures.found
+pub returns : goal.returns
+returns g c =
+    let shorter = c.in_ok-shorter.ensures in
+    if_ok c.first_among_parallel.result (λ found. AreFirst c.in_ok-shorter.shorter c.args.cap (cycles_in found.items)) (λ found. AreFirst c.args.sought.now c.args.cap (cycles_in found.items)) (λ _. ⊤) c.first_among_parallel.ensures
+    (λ found are. first_of_shorter c.args.sought.now c.in_ok-shorter.shorter c.args.cap (cycles_in found.items) shorter.table shorter.order shorter.mode shorter.short shorter.all are)

@@ -7,7 +7,7 @@ use Rattle.gl_pruning.specs.OffCycles.{IsOffCycles}
 use Rattle.gl_index.proofs.Lists.{set_here}
 use Rattle.gl_pruning.proofs.Back.{keeps_more}
 use Rattle.gl_pruning.proofs.ByKinds.{edge_is}
-use Rattle.gl_pruning.proofs.Fewer.{stay_out_at, tells_one, tells_none}
+use Rattle.gl_pruning.proofs.Fewer.{stay_out_at, tells_one}
 use Rattle.gl_pruning.proofs.sought.Sought.leave_out_if_alone.Goals as goal
 
 pub returns : goal.returns
