@@ -32,7 +32,7 @@ SITE_SHIFT, OBJECT_SHIFT = 5, 32
 CALL_MASK = ~KIND_MASK
 HELD_LIMIT = 64
 # Words of the record of losses.
-LOST_LOCKS, LOST_PLACES, LOST_THREADS = 2, 3, 4
+LOST_LOCKS, LOST_PLACES, LOST_THREADS, LOST_REASON = 2, 3, 4, 5
 KEYS_LIMIT = 1 << 22
 
 
@@ -329,47 +329,62 @@ class Process:
     """One recorded process. What is new is written under `births`, which no thread holds while it waits for a lock of the
     program's."""
 
-    def __init__(self, make_files, places, everything, command, parent=None):
+    def __init__(self, make_files, places, everything, command, mark, parent=None):
         self.births = RLock()
         self.places = places
         self.all = everything
         self.make_files = make_files
         self.command = command
+        self.mark = mark
         self.next_lock = parent.next_lock if parent else 1
         self.next_site = parent.next_site if parent else 1
         self.next_thread = 0
         self.notes = {}
         self.full = False
-        self.files = make_files()
-        above = (parent.files.process, parent.files.image) if parent else (0, 0)
-        self.record = self.files.write_process(command, above, self.next_lock, self.next_site, places.frames)
-        self.losses = self.files.write_losses()
+        self.key = parent.key if parent else (0, 0)  # number and image of the recorded process that this is or comes of
+        self.files = None
+        self.record, self.losses = [0] * (PROCESS_FORKS + 1), [0] * (LOST_REASON + 1)
+
+    def begin(self):
+        """Makes the files; an OSError if that can't be."""
+        files = self.make_files()
+        self.record = files.write_process(self.command, self.key, self.next_lock, self.next_site, self.places.frames)
+        self.losses = files.write_losses()
+        self.files, self.key = files, (files.process, files.image)
+
+    def child(self):
+        """The process that was forked of this one. It is counted where nothing can be recorded of it."""
+        child = Process(self.make_files, self.places, self.all, self.command, self.mark, self)
+        try:
+            child.begin()
+        except Exception as error:
+            child.full = True
+            child.mark.count(getattr(error, "errno", None) or 0)
+        return child
+
+    def ask(self, call, *words):
+        """What a call of the files gives; None if it fails, and then no further one is made."""
+        try:
+            return call(*words)
+        except OSError as error:
+            self.full = True
+            self.losses[LOST_REASON] = error.errno or 0
+            return None
 
     def write(self, *record):
-        """A record's words, or None: there is no room."""
-        try:
-            return None if self.full else self.files.write(*record)
-        except OSError:
-            self.full = True
-            return None
+        """A record's words, or None."""
+        return None if self.full else self.ask(self.files.write, *record)
 
     def new_events(self, thread, order):
         with self.births:
-            try:
-                return None if self.full else self.files.new_events(thread, order)
-            except OSError:
-                self.full = True
-                return None
+            return None if self.full else self.ask(self.files.new_events, thread, order)
 
     def new_thread(self, parent, child, routine):
         """Number and record of a new thread; the record is None if there is no room for it."""
         with self.births:
             number = self.next_thread
             self.next_thread += 1
-            try:
-                record = None if self.full else self.files.write_thread(number, parent, child)
-            except OSError:
-                self.full, record = True, None
+            record = None if self.full else self.ask(self.files.write_thread, number, parent, child)
             if record is None:
                 self.losses[LOST_THREADS] += 1
             elif routine:
@@ -614,9 +629,8 @@ class Recorder:
 
     def after_fork_in_child(self):
         """The child has one thread. It holds what the forking thread held, and never asked for it."""
-        old, parent = self.local.state, self.process
-        parent.files.close()
-        self.process = Process(parent.make_files, parent.places, parent.all, parent.command, parent)
+        old = self.local.state
+        self.process = self.process.child()
         state = self.local.state = self.first_state()
         state.made = old.made
         for held in old.held if state.record is not None else []:

@@ -1,8 +1,10 @@
 """The files that a recorded Python process leaves behind: those of ../record/layout.h, with records of names."""
 
-import mmap
+import errno
 import os
 import struct
+
+from goodlock_memory import Mapped
 
 LAYOUT_VERSION = 1
 EXTENT_BYTES = 64 << 20
@@ -23,6 +25,8 @@ PLACE_LIMIT, NAME_LIMIT, CUT = 8000, 1000, b"..."
 
 # In a chunk's head, as words.
 USED = 2
+# Of the launcher's mark: its size, and words in it.
+MARK_BYTES, UNRECORDED, UNRECORDED_REASON = 4096, 8, 9
 
 # Words of a process's and a thread's record, from the record's head on.
 PROCESS_FORKS = 9
@@ -39,8 +43,38 @@ def bytes_of(text, limit):
     return data[:end] + CUT
 
 
+def identity_of(descriptor):
+    """Which file this is."""
+    status = os.fstat(descriptor)
+    return status.st_dev, status.st_ino
+
+
+class Mark:
+    """The launcher's count of processes that aren't recorded (../record/recording.py), mapped as long as there may be one."""
+
+    def __init__(self, directory):
+        self.words = None
+        try:
+            descriptor = os.open("%s/recording" % directory, os.O_RDWR | os.O_CLOEXEC | os.O_NOFOLLOW | os.O_NONBLOCK)
+        except OSError:
+            return
+        try:
+            if os.fstat(descriptor).st_size == MARK_BYTES:
+                self.words = Mapped(descriptor, MARK_BYTES).bytes.cast("Q")
+        except OSError:
+            pass
+        finally:
+            os.close(descriptor)
+
+    def count(self, reason):
+        """One more, for this error."""
+        if self.words is not None:
+            self.words[UNRECORDED] += 1
+            self.words[UNRECORDED_REASON] = self.words[UNRECORDED_REASON] or reason
+
+
 class Files:
-    """The files of one process. Calls come from one thread at a time."""
+    """The files of one process. No descriptor stays open. Calls come from one thread at a time."""
 
     def __init__(self, directory):
         self.directory = directory
@@ -48,7 +82,8 @@ class Files:
         self.image = 0
         self.extents = 0
         self.extent = None
-        self.descriptor = None
+        self.path = None
+        self.identity = None
         self.used = 0
         self.table = None
         self.table_head = None
@@ -68,33 +103,48 @@ class Files:
             if self.extents:
                 raise
             return False
-        if self.descriptor is not None:
-            os.close(self.descriptor)
-            self.descriptor = None
+        self.extents += 1
         try:
             os.fchmod(descriptor, 0o600)  # whatever the program's umask is; until then it is empty
             os.ftruncate(descriptor, EXTENT_BYTES)
-            self.extent = memoryview(mmap.mmap(descriptor, EXTENT_BYTES))
-        except BaseException:
+            extent, identity = Mapped(descriptor, EXTENT_BYTES), identity_of(descriptor)
+        finally:
             os.close(descriptor)
-            raise
-        self.descriptor = descriptor
-        self.extents += 1
-        self.used = 0
+        self.extent, self.path, self.identity, self.used = extent, path, identity, 0
         return True
 
-    def close(self):
-        """In a forked child: the files are its parent's."""
-        if self.descriptor is not None:
-            os.close(self.descriptor)
+    def reserve(self, start, size):
+        """Room on the disk now: a store without it would end the program with SIGBUS. Where the file can't be opened any more, as under
+        another user, its memory gets the room, and under an old kernel there is none."""
+        refusal = self.allocate(start, size)
+        try:
+            self.extent.populate(start, size)
+        except OSError as error:
+            if error.errno != errno.EINVAL:
+                raise
+            if refusal is not None:
+                raise refusal
+
+    def allocate(self, start, size):
+        """Gives the file its room, if it can be opened; else the error."""
+        try:
+            descriptor = os.open(self.path, os.O_RDWR | os.O_CLOEXEC | os.O_NOFOLLOW | os.O_NONBLOCK)
+        except OSError as error:
+            return error
+        try:
+            if identity_of(descriptor) != self.identity:
+                return OSError(errno.ESTALE, os.strerror(errno.ESTALE))
+            os.posix_fallocate(descriptor, start, size)
+        finally:
+            os.close(descriptor)
+        return None
 
     def new_chunk(self, magic, thread, order, size, used):
         """The numbers of a new chunk's head and its words, all zero; an OSError if there is no room."""
         if self.used + size > EXTENT_BYTES:
             self.open_extent()
-        # Room on the disk now: a store without it would end the program with SIGBUS.
-        os.posix_fallocate(self.descriptor, self.used, size)
-        chunk = self.extent[self.used : self.used + size]
+        self.reserve(self.used, size)
+        chunk = self.extent.bytes[self.used : self.used + size]
         self.used += size
         struct.pack_into("=IIIQ", chunk, 4, thread, order, size, used)
         struct.pack_into("=I", chunk, 0, magic)
@@ -128,7 +178,7 @@ class Files:
         return self.write(RECORD_PROCESS, numbers, command[:500])
 
     def write_losses(self):
-        return self.write(RECORD_LOSSES, [0, 0, 0, 0])
+        return self.write(RECORD_LOSSES, [0] * 5)
 
     def write_thread(self, number, parent, child):
         return self.write(RECORD_THREAD, [number, parent, child] + [0] * (8 + OBJECT_WORDS))

@@ -330,6 +330,31 @@ def read_command():
         return "python"
 
 
+def say(text):
+    """A line on standard error, which may be closed."""
+    try:
+        if sys.stderr is not None:
+            sys.stderr.write("goodlock-python: this process isn't recorded: %s\n" % text)
+    except (OSError, ValueError):
+        pass
+
+
+def started_process(directory):
+    """The present process with its files, or None."""
+    frames = max(1, min(FRAMES_LIMIT, int(os.environ.get("GOODLOCK_PYTHON_FRAMES", "1"))))
+    places = goodlock_events.Places(PASSED_OVER, OWN_FILES, frames)
+    everything = "GOODLOCK_PYTHON_ALL" in os.environ
+    mark = goodlock_files.Mark(directory)
+    process = goodlock_events.Process(lambda: goodlock_files.Files(directory), places, everything, read_command(), mark)
+    try:
+        process.begin()
+    except OSError as error:
+        mark.count(error.errno or 0)
+        say(error)
+        return None
+    return process
+
+
 def stand_before_threading():
     threading.Lock = Lock
     threading._CRLock = RLock
@@ -350,15 +375,10 @@ def start():
     if not directory or recorder is not None:
         return
     if sys.implementation.name != "cpython" or sys.version_info < (3, 9):
-        sys.stderr.write("goodlock-python: this process isn't recorded: it is no CPython 3.9 or later\n")
+        say("it is no CPython 3.9 or later")
         return
-    frames = max(1, min(FRAMES_LIMIT, int(os.environ.get("GOODLOCK_PYTHON_FRAMES", "1"))))
-    places = goodlock_events.Places(PASSED_OVER, OWN_FILES, frames)
-    everything = "GOODLOCK_PYTHON_ALL" in os.environ
-    try:
-        process = goodlock_events.Process(lambda: goodlock_files.Files(directory), places, everything, read_command())
-    except OSError as error:
-        sys.stderr.write("goodlock-python: this process isn't recorded: %s\n" % error)
+    process = started_process(directory)
+    if process is None:
         return
     recorder = goodlock_events.Recorder(process)
     os.register_at_fork(

@@ -373,9 +373,8 @@ def left_behind(path):
 
 
 def convert_all(recording, settings, first, running, ends):
-    """Writes the traces or reports; whether there is an event in any, and whether any process began its files. `running`: the
-    processes that still write, as was seen before anything is read. `ends`: the wait statuses that are known, by process.
-    """
+    """Writes the traces or reports; whether there is an event in any, and if not, why. `running`: the processes that still write, as
+    was seen before anything is read. `ends`: the wait statuses that are known, by process."""
     from build import BuildError
     from convert import ConvertError, convert_recording, summary_lines
 
@@ -394,11 +393,21 @@ def convert_all(recording, settings, first, running, ends):
         say(line)
     for line in recorder.advice([summary.process for summary in summaries], settings):
         say(line)
-    unrecorded = recording.unrecorded()
-    if unrecorded:
-        say("%d processes weren't recorded: there was no room for their files" % unrecorded)
+    lost = say_unrecorded(recording) or any(sum(summary.lost.values()) for summary in summaries)
     keep_or_remove(recording, running, faults)
-    return any(summary.events for summary in summaries), bool(summaries) or unrecorded > 0
+    why = "what the program did was lost" if lost else recorder.reason(bool(summaries))
+    return any(summary.events for summary in summaries), why
+
+
+def say_unrecorded(recording):
+    """Says how many processes couldn't begin their files; whether there is one."""
+    from convert import NO_ROOM
+
+    count, reason = recording.unrecorded()
+    if count:
+        why = "there was no room for their files" if reason in NO_ROOM else os.strerror(reason)
+        say("%d processes weren't recorded: %s" % (count, why))
+    return count > 0
 
 
 def keep_or_remove(recording, running, faults):
@@ -428,10 +437,10 @@ def run(settings):
     else:
         recording, first, status, running, ends = record(settings)
     status = exit_status(status)
-    found, loaded = convert_all(recording, settings, first, running, ends)
+    found, why = convert_all(recording, settings, first, running, ends)
     if not found:
         what = "report" if settings.live else "trace"
-        say("no events, no %s: %s (the program's own status was %d)" % (what, recorder.reason(loaded), status))
+        say("no events, no %s: %s (the program's own status was %d)" % (what, why, status))
         return STATUS_NO_EVENTS
     return status
 

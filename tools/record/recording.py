@@ -8,7 +8,8 @@ import stat
 import struct
 
 MARK = "recording"
-# The mark's text, and where in it the processes are counted that couldn't begin their files (process.c).
+# The mark's text, and where in it the processes are counted that couldn't begin their files (process.c). The number of the first
+# one's error is behind; a recorder may leave it out.
 MARK_TEXT = b"goodlock recording\n"
 MARK_BYTES = 4096
 UNRECORDED_PLACE = 64
@@ -65,9 +66,10 @@ class Recording:
         return data if data.startswith(MARK_TEXT) and len(data) == MARK_BYTES else b""
 
     def unrecorded(self):
-        """How many processes couldn't begin their files."""
+        """How many processes couldn't begin their files, and the number of the error, or 0."""
         data = self.mark()
-        return struct.unpack_from("=Q", data, UNRECORDED_PLACE)[0] if data else 0
+        count, reason = struct.unpack_from("=QQ", data, UNRECORDED_PLACE) if data else (0, 0)
+        return count, reason & 0xFFFF
 
     def is_recording(self):
         return bool(self.mark()) or bool(self.extents())

@@ -5,7 +5,7 @@ import shutil
 import subprocess
 
 import pytest
-from known_traces import NO_EVENTS, RECORD, REFUSED, Run, compare, edges_of, expand
+from known_traces import NO_EVENTS, RECORD, REFUSED, Run, compare, cycles_in, edges_of, example_of, expand
 from python_traces import INTERPRETER, LOCKS, MARKS, MUTEXES, PYTHON_RECORD, all_interpreters, record
 
 
@@ -59,6 +59,16 @@ def test_program_that_becomes_another():
     second = ".%s.1" % run.out.strip()
     assert run.files() == ["t.std", "t.std" + second], "%s %s" % (run.files(), run.said)
     assert (len(run.lines()), len(run.lines(second))) == (2, MUTEXES), "%s %s" % (run.lines(), run.lines(second))
+
+
+def test_example_of_the_documentation():
+    """It ends well however slow its threads are, and has the cycle that the page shows."""
+    text = example_of("RECORDING-PYTHON.md", "import queue ", "tools/goodlock-python")
+    with open("bank.py", "w") as file:
+        file.write("import time\n" + text.replace("self.money -= sum", "self.money -= sum; time.sleep(0.3)"))
+    run = Run(PYTHON_RECORD, ["bank.py"], ["--python", INTERPRETER])
+    assert run.status == 0 and "12 events" in run.said, run.said
+    assert cycles_in(run.lines()) == 1, run.lines()
 
 
 def test_ways_to_start():

@@ -103,3 +103,4 @@ def test_limit_of_file_sizes_that_leaves_none():
     run = record("sh", "-c", "ulimit -f 1; exec ./locks volume")
     assert run.status == NO_EVENTS, "%d: %s" % (run.status, run.said)
     assert "there was no room for their files" in run.said, run.said
+    assert "no trace: what the program did was lost" in run.said and "took no lock" not in run.said, run.said
