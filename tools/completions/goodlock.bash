@@ -93,7 +93,7 @@ _goodlock_predict_all() {
         -j | --jobs) return ;;
     esac
     if [[ ${COMP_WORDS[COMP_CWORD]} == -* ]]; then
-        _goodlock_words "--output --jobs --program --help --version"
+        _goodlock_words "--output --jobs --null --program --help --version"
     else
         _goodlock_files -f
     fi

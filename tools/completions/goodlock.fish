@@ -51,6 +51,7 @@ complete -c goodlock-confirm -l version -d 'Print version'
 
 complete -c goodlock-predict-all -r -s o -l output -d 'The folder of the reports'
 complete -c goodlock-predict-all -x -s j -l jobs -d 'Traces at a time'
+complete -c goodlock-predict-all -s 0 -l null -d 'Names on standard input end in a zero byte'
 complete -c goodlock-predict-all -r -l program -d 'The program'
 complete -c goodlock-predict-all -l help -d 'Print help'
 complete -c goodlock-predict-all -l version -d 'Print version'

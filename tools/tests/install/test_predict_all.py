@@ -92,6 +92,15 @@ def test_names_come_from_standard_input_and_options_go_to_predict(path):
     assert {(report["len"], report["mode"]) for report in reports().values()} == {(3, "guarded")}
 
 
+@pytest.mark.parametrize("option", ["-0", "--null"])
+def test_names_on_standard_input_may_end_in_a_zero_byte(path, option):
+    names = ["a b.std", "line\nend.std", "traces/\n.std", "last"]
+    for name in names:
+        write(name, TRACE)
+    assert predict_all(path, option, "-", input="\0".join(names)) == (0, "", "")
+    assert set(reports()) == {f"{name}.json" for name in names}
+
+
 def test_the_program_may_be_named(path, tmp_path):
     write("a.std", TRACE)
     write("stand-in", "#!/bin/sh\ncat >/dev/null\necho '{}'\nexit 1\n")

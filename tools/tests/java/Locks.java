@@ -150,13 +150,13 @@ public class Locks {
 
     static void synchronizedMethods() {
         Account account = new Account();
-        account.add(1);
+        account.add(1); // @calls_add
         try {
-            account.fail();
+            account.fail(); // @calls_fail
         } catch (IllegalStateException expected) {
             account.money = 0;
         }
-        Account.count(2);
+        Account.count(2); // @calls_count
         synchronized (b) { // @count_b
             Account.count(1);
         } // @count_b_end

@@ -1,7 +1,8 @@
 """Monitors, and waiting for them: whole traces, and how many cycles they have."""
 
 import pytest
-from java_traces import PAIR, expect, expect_cycles, line_of
+from java_traces import PAIR, compile_source, expect, expect_cycles, line_of, record
+from known_traces import cycles_in, example_of
 
 pytestmark = pytest.mark.usefixtures("classes")
 
@@ -52,6 +53,16 @@ def test_synchronized_methods():
 
 def test_synchronized_methods_of_two_objects():
     expect_cycles("bank", 1)
+
+
+def test_example_of_the_documentation():
+    """It ends well however slow its threads are, and has the cycle that the page shows."""
+    text = example_of("RECORDING-JAVA.md", "import java.util.concurrent.Semaphore;", "javac ")
+    wait = " try { Thread.sleep(300); } catch (InterruptedException never) { }"
+    compile_source("Bank", text.replace("money -= sum;", "money -= sum;" + wait))
+    run = record(None, command=["java", "-cp", "own", "Bank"])
+    assert run.status == 0 and "12 events" in run.said, run.said
+    assert cycles_in(run.lines()) == 1, run.lines()
 
 
 def test_locks_of_objects():

@@ -5,7 +5,7 @@ import re
 import subprocess
 
 import pytest
-from java_traces import MARKS, PAIR, SOURCES, expect, record
+from java_traces import MARKS, PAIR, SOURCES, compile_source, expect, record
 from known_traces import compare, edges_of, expand
 
 pytestmark = pytest.mark.usefixtures("classes")
@@ -79,10 +79,63 @@ def test_more_callers():
     compare(lines, expand("\n".join("@monitor_%s%s" % (mark, places) for mark in ("a", "b", "b_end", "a_end")), MARKS))
 
 
-def test_without_line_numbers():
-    """The place is a method and the number of an instruction in it."""
+def places_of(run):
+    return [line.rsplit("|", 1)[1] for line in run.lines()]
+
+
+def test_callers_of_synchronized_methods():
+    """The acquire has the method's first line, as without callers."""
+    run = record("synchronizedMethods", "--frames", "2")
+    called = ["@add<@calls_add", "@add_end<@calls_add", "@fail<@calls_fail", "@fail_end<@calls_fail"]
+    called += ["@count<@calls_count", "@count_early<@calls_count"]
+    compare(places_of(run)[:6], expand("\n".join(called), MARKS))
+
+
+@pytest.mark.parametrize("compiled_to", ["classes", "no-lines"])
+def test_callers_leave_the_place_as_it_is(compiled_to):
+    if compiled_to == "no-lines":
+        compile_without_lines()
+    for name in ("synchronizedMethods", "monitors", "conditions", "references"):
+        command = ["java", "-cp", compiled_to, "Locks", name]
+        alone = places_of(record(None, command=command))
+        for frames in ("2", "5"):
+            innermost = [place.split("<")[0] for place in places_of(record(None, "--frames", frames, command=command))]
+            compare(innermost, alone)
+
+
+NATIVE = """class Main {
+    static final Object lock = new Object();
+
+    static class Late {
+        static {
+            synchronized (lock) {
+                lock.notify();
+            }
+        }
+    }
+
+    public static void main(String[] words) throws Exception {
+        Class.forName("Main$Late");
+    }
+}
+"""
+
+
+def test_native_caller():
+    """It has no line and no instructions."""
+    compile_source("Main", NATIVE)
+    run = record(None, "--frames", "2", command=["java", "-cp", "own", "Main"])
+    compare(places_of(run), ["Main.java:6<java.lang.Class.forName0", "Main.java:8<java.lang.Class.forName0"])
+
+
+def compile_without_lines():
     done = subprocess.run(["javac", "-g:none", "-d", "no-lines", os.path.join(SOURCES, "Locks.java")])
     assert done.returncode == 0, "javac failed"
+
+
+def test_without_line_numbers():
+    """The place is a method and the number of an instruction in it."""
+    compile_without_lines()
     lines = record(None, command=["java", "-cp", "no-lines", "Locks", "monitors"]).lines()
     words = [
         re.fullmatch(r"main\|(\w+)\(Object@Locks\.<clinit>\+\d+#1\)\|Locks\.monitors\+\d+", line) for line in lines

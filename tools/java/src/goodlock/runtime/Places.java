@@ -20,18 +20,19 @@ final class Places {
         frames = wanted;
     }
 
-    /** The innermost frame of the program's own that called the recorder, with its callers. */
-    static String withCallers() {
-        return WALKER.walk(stack -> text(stack, false));
+    /** A place, with the callers of the innermost frame of the program's own: the one that called the recorder there. */
+    static String withCallers(String place) {
+        return WALKER.walk(stack -> text(stack, false, place));
     }
 
     /** The same, where classes of the JDK stand for their callers, if there is any of the program's. */
     static String ofCaller() {
-        String text = WALKER.walk(stack -> text(stack, true));
-        return text.isEmpty() ? WALKER.walk(stack -> text(stack, false)) : text;
+        String text = WALKER.walk(stack -> text(stack, true, null));
+        return text.isEmpty() ? WALKER.walk(stack -> text(stack, false, null)) : text;
     }
 
-    private static String text(Stream<StackFrame> stack, boolean programOnly) {
+    /** `place`: what stands for the innermost frame, or null. */
+    private static String text(Stream<StackFrame> stack, boolean programOnly, String place) {
         StringBuilder text = new StringBuilder();
         int count = 0;
         for (Iterator<StackFrame> at = stack.iterator(); at.hasNext() && count < frames;) {
@@ -39,7 +40,7 @@ final class Places {
             if (count == 0 && (isStart(frame) || programOnly && isOfJdk(frame))) {
                 continue;
             }
-            text.append(count == 0 ? "" : "\n").append(textOf(frame));
+            text.append(count == 0 ? "" : "\n").append(count == 0 && place != null ? place : textOf(frame));
             count++;
         }
         return text.toString();
@@ -59,6 +60,9 @@ final class Places {
     private static String textOf(StackFrame frame) {
         String name = frame.getClassName();
         String file = frame.getFileName();
+        if (frame.isNativeMethod()) {
+            return name + "." + frame.getMethodName();
+        }
         if (file == null || frame.getLineNumber() < 0) {
             return name + "." + frame.getMethodName() + "+" + frame.getByteCodeIndex();
         }

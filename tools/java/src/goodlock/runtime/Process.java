@@ -2,7 +2,9 @@ package goodlock.runtime;
 
 import java.io.IOException;
 import java.nio.ByteBuffer;
+import java.util.ArrayList;
 import java.util.HashMap;
+import java.util.List;
 import java.util.Map;
 
 /**
@@ -20,6 +22,8 @@ final class Process {
     private final Files files;
     private final ByteBuffer losses;
     private final Map<String, Integer> places = new HashMap<>();
+    /** The places' texts: that of number 1 is the first. */
+    private final List<String> texts = new ArrayList<>();
     private final Map<String, ByteBuffer> notes = new HashMap<>();
     private int nextLock = 1;
     private int nextSite = 1;
@@ -66,7 +70,12 @@ final class Process {
             lose(LOST_PLACES);
         }
         places.put(text, nextSite);
+        texts.add(text);
         return nextSite++;
+    }
+
+    synchronized String textOf(int place) {
+        return texts.get(place - 1);
     }
 
     /** The state of a new thread. */

@@ -77,12 +77,13 @@ public final class Recorder {
 
     /** The place, with callers if they are asked for. */
     private static int at(ThreadState state, int site) {
+        int place = site & ~BY_SUPER;
         if (process.frames == 1) {
-            return site & ~BY_SUPER;
+            return place;
         }
         state.busy = true;
         try {
-            return process.place(Places.withCallers());
+            return process.place(Places.withCallers(process.textOf(place)));
         } finally {
             state.busy = false;
         }
