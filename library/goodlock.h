@@ -183,7 +183,8 @@ uint32_t goodlock_place(goodlock_session *session, const uint8_t *name, size_t l
 
 /* Pulls at most `most` notes (events and end marks) off the lanes, each lane in turn from thread 0, and off
    none more than its ring holds: with `most` the rings of all lanes, or more, a busy one doesn't keep the others
-   waiting. *pulled says how many of either, in every case; none at all, where it answers OK and `most` isn't 0: each
+   waiting. (With less it may, for as long as it is busy: then pull off lane after lane by goodlock_pull_lane.)
+   *pulled says how many of either, in every case; none at all, where it answers OK and `most` isn't 0: each
    lane was empty when its turn came, or has ended. What it costs is said above; a lane that is empty is a look.
    OK. MEMORY: what was pulled before stands, nothing is lost; call again. BROKEN: what was pulled before stands. The
    note stays in its lane, so that each later call that comes to it answers BROKEN, and comes to no lane behind it.

@@ -19,9 +19,11 @@
 //   where a lock has that name already, and so on), or else where it was made, as "mutex@bank.cc:17#1".
 // - A record costs what goodlock_record costs and a look-up of the place in a table of the thread. The first pass of a thread
 //   at a place, the first lock of a mutex and the start of a thread wait for the session's own mutex. Where a lane
-//   is full the thread yields until the collecting thread has pulled: a larger ring makes that rare.
+//   is full the thread yields until the collecting thread has pulled: a larger ring makes that rare. It pulls off each lane
+//   in turn, so where many threads record more than it can pull, all of them go at its pace.
 // - What can't be recorded (more threads than lanes, an event that is refused, as the unlock of a mutex that was locked before
 //   start(), a lock at whose first use the session has no memory for its name) is counted in `unrecorded`, and the lock works all the same.
+// - finish() may be called while threads record: what they do from then on isn't recorded, and the report isn't settled.
 // - After fork() in the child: none of this, only _exit or exec. Not from signal handlers, nor in a memory allocator.
 #ifndef GOODLOCK_HPP
 #define GOODLOCK_HPP
@@ -29,6 +31,7 @@
 #include "goodlock.h"
 
 #include <atomic>
+#include <bitset>
 #include <chrono>
 #include <cstdint>
 #include <mutex>
@@ -76,6 +79,30 @@ struct line_hash {
 
 inline std::string text(const line &at) { return std::string(at.file) + ":" + std::to_string(at.number); }
 
+// A mutex that one thread asks for again and again: by lock_last(), which lets those go first who wait already. With
+// lock() it would mostly have the mutex again before a waiting thread has woken up.
+class session_mutex {
+public:
+    void lock() {
+        asked++;
+        inner.lock();
+        served++;
+    }
+    void unlock() { inner.unlock(); }
+
+    // For a moment only, as a thread that waits may be one that the system keeps from running.
+    void lock_last() {
+        const uint64_t before = asked;
+        for (int i = 0; i < 5 && served < before; i++)
+            std::this_thread::sleep_for(std::chrono::microseconds(50));
+        inner.lock();
+    }
+
+private:
+    std::mutex inner;
+    std::atomic<uint64_t> asked{0}, served{0};
+};
+
 // The session of the process. It is never destroyed, as threads may outlive main.
 class world {
 public:
@@ -87,7 +114,7 @@ public:
     bool is_open() const { return open.load(std::memory_order_acquire); }
 
     uint32_t start(uint64_t number, uint32_t threads, uint32_t ring) {
-        std::lock_guard<std::mutex> hold(mutex);
+        std::lock_guard<session_mutex> hold(mutex);
         if (has_started)
             return GOODLOCK_MISUSE;
         const uint32_t code = goodlock_open(number, threads, ring, &session);
@@ -101,13 +128,12 @@ public:
 
     // The next lane and its number; NONE where there is none.
     uint32_t lane(goodlock_lane &lane) {
-        std::lock_guard<std::mutex> hold(mutex);
-        uint32_t number = NONE;
-        return goodlock_lane_open(&session, &lane, &number) == GOODLOCK_OK ? number : NONE;
+        std::lock_guard<session_mutex> hold(mutex);
+        return next_lane(lane);
     }
 
     uint32_t lock(const std::string &name) {
-        std::lock_guard<std::mutex> hold(mutex);
+        std::lock_guard<session_mutex> hold(mutex);
         std::string own = name;
         while (!names.insert({own, 1}).second)
             own = name + "#" + std::to_string(++names[name]);
@@ -118,41 +144,43 @@ public:
 
     uint32_t place(const line &at) {
         const std::string name = text(at);
-        std::lock_guard<std::mutex> hold(mutex);
+        std::lock_guard<session_mutex> hold(mutex);
         uint32_t number = NONE;
         goodlock_place(&session, bytes(name), name.size(), &number);
         return number;
     }
 
-    // Ends a lane: closes it once there is room, and hands it in.
+    // Ends a lane: closes it once there is room, and hands it in. Not where recording has stopped before: what its thread
+    // did since then is missing, so the session may not be settled with this lane.
     void end(goodlock_lane &lane) {
         uint32_t code;
-        while ((code = goodlock_close(&lane)) == GOODLOCK_FULL && is_open())
+        bool is_whole = is_open();
+        while ((code = goodlock_close(&lane)) == GOODLOCK_FULL && is_whole) {
             std::this_thread::yield();
-        std::lock_guard<std::mutex> hold(mutex);
-        if (code == GOODLOCK_OK)
+            is_whole = is_open();
+        }
+        std::lock_guard<session_mutex> hold(mutex);
+        if (code == GOODLOCK_OK && is_whole)
             goodlock_hand_in(&session, &lane);
         goodlock_lane_free(&lane);
     }
 
     result so_far(uint32_t mode, uint32_t length, uint32_t number) {
-        std::lock_guard<std::mutex> hold(mutex);
+        std::lock_guard<session_mutex> hold(mutex);
         goodlock_report report = {nullptr};
         const uint32_t code = goodlock_report_so_far(&session, mode, length, number, &report);
         return told(code, report, false);
     }
 
-    // The calling thread's lane has ended, and no other thread calls this.
+    // The calling thread's lane has ended. Recording stops first, so that what is left to pull comes to an end.
     result finish(uint32_t mode, uint32_t length, uint32_t number) {
-        if (!is_open())
+        if (!open.exchange(false))
             return result();
-        goodlock_lane unused = {nullptr};
-        while (lane(unused) != NONE)
-            end(unused);
         is_ending = true;
         collector.join();
-        open.store(false, std::memory_order_release);
-        std::lock_guard<std::mutex> hold(mutex);
+        std::lock_guard<session_mutex> hold(mutex);
+        end_unused();
+        pull_rest();
         uint32_t missing;
         const bool is_settled = goodlock_settle(&session, &missing) == GOODLOCK_OK;
         goodlock_report report = {nullptr};
@@ -171,20 +199,64 @@ private:
 
     static const uint8_t *bytes(const std::string &name) { return reinterpret_cast<const uint8_t *>(name.data()); }
 
-    void collect() {
-        for (;;) {
-            const bool is_last = is_ending;
-            goodlock_pulled pulled = {0, 0};
-            {
-                std::lock_guard<std::mutex> hold(mutex);
-                goodlock_pull(&session, 4096, &pulled); // where memory is refused, the next round tries again
-            }
-            if (pulled.events == 0 && pulled.ended == 0) {
-                if (is_last)
-                    return;
-                std::this_thread::sleep_for(std::chrono::microseconds(50));
-            }
+    // These four are called by who has the mutex.
+
+    uint32_t next_lane(goodlock_lane &lane) {
+        uint32_t number = NONE;
+        if (goodlock_lane_open(&session, &lane, &number) != GOODLOCK_OK)
+            return NONE;
+        given = number + 1;
+        return number;
+    }
+
+    // Ends the lanes that no thread has.
+    void end_unused() {
+        goodlock_lane unused = {nullptr};
+        while (next_lane(unused) != NONE) {
+            if (goodlock_close(&unused) == GOODLOCK_OK)
+                goodlock_hand_in(&session, &unused);
+            goodlock_lane_free(&unused);
         }
+    }
+
+    // Pulls what the lanes hold, once recording has stopped: of none more than its ring.
+    void pull_rest() {
+        goodlock_pulled pulled = {0, 0};
+        while (goodlock_pull(&session, UINT32_MAX, &pulled) == GOODLOCK_MEMORY && pulled.events + pulled.ended > 0)
+            ;
+    }
+
+    // Pulls a share of what a lane holds, and answers how many notes. Where memory is refused, the next round tries again.
+    uint32_t pull(uint32_t lane) {
+        goodlock_pulled pulled = {0, 0};
+        if (!has_ended[lane])
+            goodlock_pull_lane(&session, lane, 1024, &pulled);
+        if (pulled.ended > 0)
+            has_ended.set(lane);
+        return pulled.events + pulled.ended;
+    }
+
+    // The collecting thread's.
+    void collect() {
+        while (!is_ending)
+            if (!pull_round())
+                std::this_thread::sleep_for(std::chrono::microseconds(50));
+    }
+
+    // Pulls off each lane in turn, so that a busy one doesn't keep others waiting, and gives the mutex up now and then.
+    // Whether there was a note.
+    bool pull_round() {
+        bool is_any = false, is_over = false;
+        for (uint32_t lane = 0; !is_over;) {
+            mutex.lock_last();
+            std::lock_guard<session_mutex> hold(mutex, std::adopt_lock);
+            uint32_t notes = 0;
+            for (; lane < given && notes < 4096; lane++)
+                notes += pull(lane);
+            is_any = is_any || notes > 0;
+            is_over = lane == given;
+        }
+        return is_any;
     }
 
     result told(uint32_t code, goodlock_report &report, bool is_settled) {
@@ -206,8 +278,10 @@ private:
         return answer;
     }
 
-    std::mutex mutex; // of the session and the names: one call at a time
+    session_mutex mutex; // of the session, its lanes and the names: one call at a time
     goodlock_session session = {nullptr};
+    uint32_t given = 0;                              // how many lanes were given out
+    std::bitset<1024> has_ended;                     // the lanes, as many as there may be, whose end mark was pulled
     std::unordered_map<std::string, unsigned> names; // of locks, and the last number that was set behind each
     std::thread collector;
     bool has_started = false;
@@ -226,10 +300,11 @@ public:
         return own.lane.at == nullptr ? nullptr : &own;
     }
 
-    // Gives the thread the lane that was opened for it.
+    // Gives the thread the lane that was opened for it. Where recording has stopped since, the lane ends.
     static void adopt(goodlock_lane lane) {
         given() = lane;
-        get();
+        if (get() == nullptr)
+            world::get().end(given());
     }
 
     // The thread gets no lane, now or later: its fork isn't recorded, and without that what it does would seem to happen
@@ -430,7 +505,8 @@ inline result report_so_far(uint32_t mode = GOODLOCK_FULL_MODE, uint32_t length 
 }
 
 // Ends the recording and answers its report: settled where all threads that were recorded have ended, but for the
-// calling one. Once, by one thread; the session is closed then.
+// calling one, else of what was recorded so far. It doesn't wait for other threads. Once, by one thread; the session is
+// closed then.
 inline result finish(uint32_t mode = GOODLOCK_FULL_MODE, uint32_t length = 4, uint32_t number = 1000) {
     detail::mine::finish();
     return detail::world::get().finish(mode, length, number);

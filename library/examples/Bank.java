@@ -37,6 +37,7 @@ final class Bank {
     }
 
     static final int THREADS = 3; // the main thread, the saver and the spender
+    static final int RING = 256;
 
     static int first;
     static int second;
@@ -59,11 +60,14 @@ final class Bank {
         isDone.countDown();
     }
 
-    /** The collecting thread: pulls until every lane has ended, with short sleeps while all are empty. */
+    /**
+     * The collecting thread: pulls until every lane has ended, with short sleeps while all are empty. A pull may take what
+     * all rings hold, so that a busy thread keeps no other one waiting.
+     */
     static void collect(long session) {
         try {
             for (long ended = 0; ended < THREADS; ) {
-                long pulled = Goodlock.pull(session, 1000);
+                long pulled = Goodlock.pull(session, THREADS * RING);
                 ended += pulled >>> 32;
                 if ((int) pulled == 0) {
                     Thread.sleep(0, 20000);
@@ -75,7 +79,7 @@ final class Bank {
     }
 
     public static void main(String[] words) throws InterruptedException {
-        long session = Goodlock.open(1, THREADS, 256);
+        long session = Goodlock.open(1, THREADS, RING);
         Account savings = new Account(session, "savings");
         Account current = new Account(session, "current");
         first = Goodlock.place(session, "transfer, first");

@@ -15,6 +15,7 @@
 #include <time.h>
 
 enum { MAIN, SAVER, SPENDER, THREADS };
+enum { RING = 256 };
 
 /* A lock has its number beside it. */
 struct account {
@@ -91,13 +92,14 @@ static void *tell(void *argument)
     return NULL;
 }
 
-/* The collecting thread: pulls until every lane has ended, with short sleeps while all are empty. */
+/* The collecting thread: pulls until every lane has ended, with short sleeps while all are empty. A pull may take what
+ * all rings hold, so that a busy thread keeps no other one waiting. */
 static void *collect(void *argument)
 {
     goodlock_session *session = argument;
     goodlock_pulled pulled;
     for (uint32_t ended = 0; ended < THREADS; ended += pulled.ended) {
-        check(goodlock_pull(session, 1000, &pulled));
+        check(goodlock_pull(session, THREADS * RING, &pulled));
         if (pulled.events == 0)
             nanosleep(&(struct timespec){0, 20000}, NULL);
     }
@@ -149,7 +151,7 @@ int main(void)
         {0}, {&lanes[SAVER], &current, &savings, &is_done}, {&lanes[SPENDER], &savings, &current, &is_done}};
     uint32_t number, missing;
     sem_init(&is_done, 0, 0);
-    check(goodlock_open(1, THREADS, 256, &session));
+    check(goodlock_open(1, THREADS, RING, &session));
     name_all(&session);
     for (int i = 0; i < THREADS; i++)
         check(goodlock_lane_open(&session, &lanes[i], &number)); /* number is i */

@@ -14,6 +14,7 @@ import time
 OK, FULL = 0, 2
 ACQUIRE, RELEASE, FORK, JOIN = 0, 2, 6, 7
 FULL_MODE = 2
+LANES, RING = 3, 256  # of the main thread, the saver and the spender
 
 
 class Handle(ctypes.Structure):
@@ -101,11 +102,12 @@ def transfer(lane, places, source, target, amount):
     source.give(lane, places["end"])
 
 
-def collect(session, lanes):
-    """The collecting thread: pulls until every lane has ended, with short sleeps while all are empty."""
+def collect(session):
+    """The collecting thread: pulls until every lane has ended, with short sleeps while all are empty. A pull may take what
+    all rings hold, so that a busy thread keeps no other one waiting."""
     pulled, ended = Pulled(), 0
-    while ended < lanes:
-        check(goodlock.goodlock_pull(session, 1000, pulled))
+    while ended < LANES:
+        check(goodlock.goodlock_pull(session, LANES * RING, pulled))
         ended += pulled.ended
         if pulled.events == 0:
             time.sleep(0.0001)
@@ -130,11 +132,11 @@ def print_report(session):
 
 def main():
     session, missing = Handle(), number()
-    check(goodlock.goodlock_open(1, 3, 256, session))
+    check(goodlock.goodlock_open(1, LANES, RING, session))
     savings, current = Account(session, b"savings"), Account(session, b"current")
     places = {word: place(session, b"transfer, " + word.encode()) for word in ("first", "second", "end")}
-    lanes = [Lane(session) for _ in range(3)]  # of the main thread, the saver and the spender
-    collector = threading.Thread(target=collect, args=[session, len(lanes)])
+    lanes = [Lane(session) for _ in range(LANES)]
+    collector = threading.Thread(target=collect, args=[session])
     collector.start()  # the session is the collector's from here
 
     def tell(lane, source, target):

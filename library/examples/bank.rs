@@ -142,11 +142,16 @@ fn lane(session: &mut Handle) -> Lane {
     Lane(lane)
 }
 
-/// The collecting thread: pulls until three lanes have ended, with short sleeps while all are empty.
+/// The lanes are those of the main thread, the saver and the spender.
+const LANES: u32 = 3;
+const RING: u32 = 256;
+
+/// The collecting thread: pulls until every lane has ended, with short sleeps while all are empty. A pull may take what all
+/// rings hold, so that a busy thread keeps no other one waiting.
 fn collect(mut session: Handle) -> Handle {
     let (mut pulled, mut ended) = (goodlock::Pulled::default(), 0);
-    while ended < 3 {
-        check(unsafe { goodlock::goodlock_pull(&mut session, 1000, &mut pulled) });
+    while ended < LANES {
+        check(unsafe { goodlock::goodlock_pull(&mut session, LANES * RING, &mut pulled) });
         ended += pulled.ended;
         if pulled.events == 0 {
             thread::sleep(std::time::Duration::from_micros(20));
@@ -171,7 +176,7 @@ fn report(session: &mut Handle) -> String {
 
 fn main() {
     let mut session = Handle::NONE;
-    check(unsafe { goodlock::goodlock_open(1, 3, 256, &mut session) });
+    check(unsafe { goodlock::goodlock_open(1, LANES, RING, &mut session) });
     let (savings, current) = (account(&mut session, "savings"), account(&mut session, "current"));
     let places = Places {
         first: place(&mut session, "transfer, first"),

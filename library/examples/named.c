@@ -13,7 +13,7 @@
 #include <semaphore.h>
 #include <stdio.h>
 
-enum { CLERKS = 2, ROUNDS = 100 };
+enum { CLERKS = 2, ROUNDS = 100, RING = 64 };
 
 /* A lock needs no number beside it: its address is enough. */
 struct shelf {
@@ -128,7 +128,7 @@ int main(void)
         sem_init(&turns[i], 0, i == 0); /* the first clerk may begin */
     check(goodlock_names_open(100, &locks));
     check(goodlock_names_open(100, &places));
-    check(goodlock_open(1, CLERKS, 64, &session));
+    check(goodlock_open(1, CLERKS, RING, &session));
     for (int i = 0; i < CLERKS; i++) {
         clerks[i] = (struct clerk){{0}, shelves[i], shelves[1 - i], &turns[i], &turns[i + 1]};
         check(goodlock_lane_open(&session, &clerks[i].lane, &number));
@@ -137,7 +137,7 @@ int main(void)
         pthread_create(&threads[i], NULL, work, &clerks[i]);
 
     for (uint32_t ended = 0; ended < CLERKS; ended += pulled.ended) { /* main collects */
-        check(goodlock_pull(&session, 1000, &pulled));
+        check(goodlock_pull(&session, CLERKS * RING, &pulled)); /* what all rings hold: nobody waits for another */
         if (pulled.events == 0)
             sched_yield();
     }

@@ -172,6 +172,10 @@ def right_documents():
     yield dict(REPORT_3, findings=[])
     for report in (REPORT_2, REPORT_3):
         yield changed(report, "edges", 0, "guard_modes", ["s"] * 64)
+    # What libgoodlock prints of locks without a name.
+    yield dict(REPORT_2, edges=[dict(TABLE[0], held="", guards=[""], wanted_at=""), dict(TABLE[1], wanted="")])
+    held = dict(TABLE[0], guards=["", ""], guard_modes=["x", "x"], held="", place=2)
+    yield dict(REPORT_2, cycles=[], edges=[held, dict(TABLE[0], guards=[""], held="", wanted=""), held], trim=[0, 1, 2])
     kinds = ((REPORT, NONE, ("cycles", 0)), (REPORT_2, NONE_2, ("edges",)), (REPORT_3, NONE_3, ("edges",)))
     for report, none, way in kinds:
         yield report
@@ -241,7 +245,6 @@ def wrong_with_table(report, top, listed):
     table = f"{top}/properties/edges/$ref"
     for value in ({}, "", 0, None):
         yield f"{table}/type", dict(report, edges=value)
-    yield f"{table}/uniqueItems", dict(report, edges=TABLE + TABLE[:1])
     edge = f"{table}/items/$ref"
     yield from wrong_edges(report, edge, "edges")
     yield f"{edge}/additionalProperties", changed(report, "edges", 1, "mode", "x")
@@ -305,10 +308,10 @@ def wrong_edges(report, edge, *way):
     misspelled = ["\n", "a\x7f", "\xe9", "\\x41", "\\x7e", "\\x20", "\\x5C", "\\xC3", "\\x8", "\\n", "\\", "\\\\"]
     names = [(f"{edge}/properties/{name}/$ref", [name]) for name in ("thread", "held", "wanted")]
     for at, rest in names + [(f"{edge}/properties/guards/$ref/items/$ref", ["guards", 0])]:
-        yield f"{at}/minLength", with_value(*rest, "")
         yield f"{at}/$ref/type", with_value(*rest, 7)
         for text in misspelled:
             yield f"{at}/$ref/pattern", with_value(*rest, text)
+    yield f"{edge}/properties/thread/$ref/minLength", with_value("thread", "")
     for name in ("held_at", "wanted_at"):
         yield f"{edge}/properties/{name}/$ref/$ref/type", with_value(name, None)
         for text in misspelled:
@@ -319,7 +322,6 @@ def wrong_edges(report, edge, *way):
         yield f"{guards}/type", with_value("guards", value)
     yield f"{guards}/minItems", with_value("guards", [])
     yield f"{guards}/maxItems", with_value("guards", [f"l{i}" for i in range(65)])
-    yield f"{guards}/uniqueItems", with_value("guards", ["b", "c", "b"])
 
 
 # --- Reports of a program -------------------------------------------------------------------------------
@@ -357,8 +359,13 @@ def wrong_in(schema, output, status, mode, length, most):
         return "lists more or longer cycles than were asked for"
     if status != (1 if count else 0):
         return f"{count} cycles with status {status}"
+    problem = wrong_in_edges(report["edges"] if report["format"] != 1 else [edge for cycle in listed for edge in cycle])
+    if problem:
+        return problem
     if report["format"] != 1:
         size = len(report["edges"])
+        if len(set(map(json.dumps, report["edges"]))) < size:
+            return "has an edge twice"
         if any(position >= size for cycle in listed for position in cycle):
             return "has a cycle of an edge that isn't in the table"
         if any(len(edge["guards"]) != len(edge["guard_modes"]) for edge in report["edges"]):
@@ -366,6 +373,15 @@ def wrong_in(schema, output, status, mode, length, most):
     if report["format"] == 2 and report["trim"] is not None:
         if sorted(report["trim"]) != list(range(size)) or count:
             return "takes away other edges than there are, or with cycles"
+    return None
+
+
+def wrong_in_edges(edges):
+    """What is wrong with edges of a program's report that the schema lets through in one of the library."""
+    if any("" in (edge["held"], edge["wanted"], *edge["guards"]) for edge in edges):
+        return "has a lock without a name"
+    if any(len(set(edge["guards"])) < len(edge["guards"]) for edge in edges):
+        return "has a guard twice"
     return None
 
 

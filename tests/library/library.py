@@ -10,7 +10,7 @@ sessions.c records random sessions in running threads; each report's text and JS
 trace of what was recorded, byte for byte. Some hundred of them run under AddressSanitizer, ThreadSanitizer and Valgrind.
 misuse.c uses each call wrongly, refuses memory, forks and leaves in mid-course; partial.c leaves events out, and goes
 on in a second session; order.c tells the same by numbers in two orders, and their reports by mention have to be the
-same; wrapper.cc and forms.cc are of goodlock.hpp, names.c of goodlock_names.h, as C and as C++, by many threads and by all short
+same; wrapper.cc, forms.cc and busy.cc are of goodlock.hpp, names.c of goodlock_names.h, as C and as C++, by many threads and by all short
 schedules of two or three; debug.c breaks each promise that goodlock_debug.h checks, and the tests above that keep them
 are run with GOODLOCK_DEBUG, too, in which they say the same. Every run has a limit of time. The last line is `N passed,
 N failed`, with `, N skipped` behind it where tools are missing: each is named. PART: headers, examples, wrapper, names,
@@ -485,6 +485,7 @@ class Tests:
             if self.build(f"wrapper_{name}", *c, "-lpthread"):
                 for word in ("locks", "names", "memory", "threads", "leave"):
                     self.counted(f"wrapper, {word}, {name}", f"wrapper_{name}", word, env=environment)
+            self.busy(name, "g++", "c++11", *words)
             if name != "thread":  # gcc's doesn't know pthread_mutex_clocklock, by which std's limits of time go
                 self.forms(name, "g++", "c++17", *words)
         for compiler in ("g++", "clang++"):
@@ -493,6 +494,18 @@ class Tests:
                     self.skip(f"goodlock.hpp as {standard} by {compiler}", f"{compiler} isn't installed")
                 else:
                     self.forms(f"{compiler} {standard}", compiler, standard)
+        if shutil.which("clang++") is not None:
+            self.busy("clang++", "clang++", "c++20")
+
+    def busy(self, name, compiler, standard, *words):
+        """goodlock.hpp where more is recorded than can be pulled, and while the session ends."""
+        c = [f"-std={standard}", "-O1", "-g", *STRICT, "-Wconversion", "-Wshadow", f"-I{HEADERS}", *words]
+        wraps = ["-Wl,--wrap=goodlock_pull", "-Wl,--wrap=goodlock_pull_lane"]
+        output = f"busy_{re.sub('[^a-z0-9]', '_', name)}"
+        environment = {**os.environ, "TSAN_OPTIONS": "detect_deadlocks=0"}
+        if self.build(output, compiler, *c, HERE / "busy.cc", ARCHIVE, *wraps, "-lpthread"):
+            for word in ("turns", "asked", "finish", "filled", "dropped", "late"):
+                self.counted(f"busy, {word}, {name}", output, word, env=environment)
 
     def forms(self, name, compiler, standard, *words, **more):
         """Whether goodlock.hpp has the forms of std, without a warning."""
@@ -628,6 +641,7 @@ class Tests:
                 for word in ("locks", "names", "memory", "threads"):
                     self.counted(f"debug, wrapper, {word}, {name}", f"debug_wrapper_{name}", word, env=environment)
                 self.left(f"debug, wrapper, leave, {name}", 1, f"debug_wrapper_{name}", "leave")
+            self.busy(f"debug {name}", "g++", "c++17", DEBUG, *more)
         for source, compiler, right in (("bank.c", "gcc", BY_NAME), ("named.c", "gcc", BY_ADDRESS)):
             if self.build(f"debug_{source}.run", compiler, EXAMPLES / source, *c, ARCHIVE, "-lpthread"):
                 self.example(f"debug, {source}", right, f"./debug_{source}.run")

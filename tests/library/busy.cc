@@ -1,0 +1,285 @@
+// Tests goodlock.hpp where threads record more than the collecting thread can pull, and where they go on while the
+// session ends.
+//
+//     library_busy turns      a thread beside busy ones gets on as they do
+//     library_busy asked      who asks for the session's mutex gets it from a collecting thread that always has notes
+//     library_busy finish     finish() beside threads that record for ever
+//     library_busy filled     lanes that are full when finish() begins are in the settled report
+//     library_busy dropped    a thread of whose events one is dropped ends before the report is made
+//     library_busy late       a thread begins after finish()
+//
+// Calls that pull go through this file, by the linker's --wrap: time is counted in notes and in pulls, so that slow
+// machines and busy ones see the same. What isn't as it has to be is told; the last line is how many checks passed and
+// failed.
+#include "checks.hpp"
+
+#include <sched.h>
+
+static goodlock::detail::world &world = goodlock::detail::world::get();
+static std::atomic<uint64_t> notes{0}, late_notes{0}, pulls{0}; // late: once recording has stopped
+static std::atomic<uint64_t> last_note{UINT64_MAX};             // after which is_over is set
+static std::atomic<unsigned> feigned{0};                        // so many pulls find what isn't there
+static std::atomic<bool> is_blind{false}, is_slow{false}, is_held{false}, is_over{false};
+
+static void wait_until(bool is_asked(), const char *what)
+{
+    const auto end = std::chrono::steady_clock::now() + std::chrono::seconds(60);
+    while (!is_asked() && std::chrono::steady_clock::now() < end)
+        std::this_thread::yield();
+    check(is_asked(), what);
+}
+
+// A pull that finds what isn't there: its thread doesn't sleep then.
+static uint32_t feign_a_pull(goodlock_pulled *pulled)
+{
+    const auto end = std::chrono::steady_clock::now() + std::chrono::microseconds(20);
+    while (std::chrono::steady_clock::now() < end)
+        ;
+    feigned--;
+    pulled->events = 1;
+    return GOODLOCK_OK;
+}
+
+template <class F> static uint32_t pull_by(F pull, goodlock_pulled *pulled)
+{
+    *pulled = {0, 0};
+    pulls++;
+    while (is_held)
+        std::this_thread::yield();
+    if (feigned > 0)
+        return feign_a_pull(pulled);
+    if (is_blind && world.is_open())
+        return GOODLOCK_OK;
+    if (is_slow)
+        std::this_thread::sleep_for(std::chrono::milliseconds(1));
+    const uint32_t code = pull(), found = pulled->events + pulled->ended;
+    late_notes += world.is_open() ? 0 : found;
+    if ((notes += found) > last_note)
+        is_over = true;
+    return code;
+}
+
+extern "C" {
+uint32_t __real_goodlock_pull(goodlock_session *session, uint32_t most, goodlock_pulled *pulled);
+uint32_t __real_goodlock_pull_lane(goodlock_session *session, uint32_t thread, uint32_t most, goodlock_pulled *pulled);
+
+uint32_t __wrap_goodlock_pull(goodlock_session *session, uint32_t most, goodlock_pulled *pulled)
+{
+    return pull_by([=] { return __real_goodlock_pull(session, most, pulled); }, pulled);
+}
+
+uint32_t __wrap_goodlock_pull_lane(goodlock_session *session, uint32_t thread, uint32_t most, goodlock_pulled *pulled)
+{
+    return pull_by([=] { return __real_goodlock_pull_lane(session, thread, most, pulled); }, pulled);
+}
+}
+
+constexpr uint32_t BUSY = 12;
+
+// Locks and unlocks a lock of its own as often as it may.
+template <class F> static void turns_while(F may_go_on)
+{
+    goodlock::mutex own;
+    for (unsigned long count = 0; may_go_on(count); count++)
+        goodlock::guard<goodlock::mutex> hold(own);
+}
+
+// The most turns that one of many threads makes while the last one makes so many.
+static unsigned long most_turns_while(unsigned long few, unsigned long many)
+{
+    std::atomic<bool> may_begin{false};
+    std::atomic<unsigned long> most{0};
+    std::vector<goodlock::thread> busy;
+    for (uint32_t i = 0; i < BUSY; i++)
+        busy.emplace_back([&] {
+            while (!may_begin)
+                std::this_thread::yield();
+            unsigned long made = 0, known = 0;
+            turns_while([&](unsigned long count) {
+                made = count;
+                return !is_over && count < many;
+            });
+            while (made > known && !most.compare_exchange_weak(known, made))
+                ;
+        });
+    goodlock::thread last([&] {
+        may_begin = true;
+        turns_while([&](unsigned long count) { return count < few; });
+        is_over = true;
+    });
+    last.join();
+    is_slow = false;
+    for (goodlock::thread &thread : busy)
+        thread.join();
+    return most;
+}
+
+// Pulls take so long that lanes are always full. Nobody makes ten times as many turns as the last thread.
+static void turns()
+{
+    const uint32_t ring = 4096;
+    is_slow = true;
+    check(goodlock::start(BUSY + 2, ring) == GOODLOCK_OK, "start");
+    const unsigned long most = most_turns_while(ring, 10 * ring);
+    check(most < 10 * ring,
+          "while " + std::to_string(ring) + " turns are made another thread makes " + std::to_string(most));
+    const goodlock::result result = goodlock::finish();
+    check(result.code == GOODLOCK_OK && result.is_settled && result.unrecorded == 0, "the report is settled");
+}
+
+// All on one processor, where a thread that wakes up doesn't run before the others have had their time.
+static void share_a_processor()
+{
+    cpu_set_t set;
+    const sched_param none = {};
+    CPU_ZERO(&set);
+    CPU_SET(sched_getcpu(), &set);
+    check(sched_setaffinity(0, sizeof set, &set) == 0, "one processor");
+    check(sched_setscheduler(0, SCHED_BATCH, &none) == 0, "as a batch");
+}
+
+// Each time while the collecting thread, which always finds something, is in a pull.
+static void asked()
+{
+    const unsigned locks = 10, most = 20 * locks;
+    uint64_t taken = 0;
+    share_a_processor();
+    check(goodlock::start(1, 4 * locks) == GOODLOCK_OK, "start");
+    feigned = 50 * most;
+    for (unsigned i = 0; i < locks; i++) {
+        uint64_t before = pulls;
+        while (pulls == before && feigned > 0)
+            std::this_thread::yield();
+        before = pulls;
+        turns_while([](unsigned long count) { return count < 1; });
+        taken += pulls - before;
+    }
+    feigned = 0;
+    check(taken < most, std::to_string(locks) + " locks have their numbers after " + std::to_string(taken) + " pulls");
+    const goodlock::result result = goodlock::finish();
+    check(result.code == GOODLOCK_OK && result.is_settled && result.unrecorded == 0, "the report is settled");
+}
+
+// Pulls take so long that lanes are never all empty. Once recording has stopped, a ring of each lane is left to pull,
+// and what was being pulled.
+static void finish()
+{
+    const uint32_t ring = 4096, lanes = BUSY + 1;
+    const uint64_t most = 500000;
+    std::atomic<uint32_t> running{0};
+    std::vector<goodlock::thread> busy;
+    check(goodlock::start(lanes + 3, ring) == GOODLOCK_OK, "start");
+    for (uint32_t i = 0; i < BUSY; i++)
+        busy.emplace_back([&] {
+            turns_while([&](unsigned long count) {
+                running += count == ring;
+                return !is_over;
+            });
+        });
+    while (running < BUSY)
+        std::this_thread::yield();
+    is_slow = true;
+    last_note = notes + most;
+    const goodlock::result result = goodlock::finish();
+    check(!is_over, "finish() pulls as long as threads record");
+    is_over = true;
+    for (goodlock::thread &thread : busy)
+        thread.join();
+    check(late_notes <= 2 * lanes * ring, std::to_string(late_notes) + " notes are pulled once recording has stopped");
+    check(result.code == GOODLOCK_OK && !result.is_settled, "a report so far of threads that go on");
+    check(result.text == "cycles: 0\n", "another text:\n" + result.text);
+}
+
+// Nothing is pulled before finish(), and the last events of each thread are those that make the cycle.
+static void filled()
+{
+    goodlock::mutex one("one"), other("other");
+    const auto fill = [](goodlock::mutex &first, goodlock::mutex &second) {
+        turns_while([](unsigned long count) { return count < 13; });
+        goodlock::guard<goodlock::mutex> outer(first), inner(second);
+    };
+    is_blind = true;
+    check(goodlock::start(5, 31) == GOODLOCK_OK, "start"); // 30 events and the end mark
+    one_by_one([&] { fill(one, other); }, [&] { fill(other, one); });
+    const goodlock::result result = goodlock::finish();
+    check(late_notes == 4 + 1 + 2 * 31 + 2, std::to_string(late_notes) + " notes are pulled at the end");
+    check(result.code == GOODLOCK_OK && result.is_settled && result.unrecorded == 0, "the report is settled");
+    check(result.cycles == 1, "another text:\n" + result.text);
+}
+
+// The collecting thread is held until a thread whose last turn was dropped has asked for the session's mutex: so it is
+// there before finish() has it.
+static void dropped()
+{
+    static std::atomic<bool> is_recorded{false}, is_done{false};
+    check(goodlock::start(4, 64) == GOODLOCK_OK, "start");
+    goodlock::thread thread([] {
+        turns_while([](unsigned long count) {
+            is_recorded = count == 1;
+            while (count == 1 && world.is_open())
+                std::this_thread::yield();
+            return count < 2;
+        });
+        is_done = true;
+    });
+    wait_until([] { return is_recorded.load(); }, "the thread doesn't record");
+    goodlock::detail::mine::finish();
+    is_held = true;
+    static const uint64_t before = pulls;
+    wait_until([] { return pulls > before; }, "nobody pulls");
+    std::thread release([] {
+        wait_until([] { return is_done.load(); }, "recording doesn't stop");
+        std::this_thread::sleep_for(std::chrono::milliseconds(50));
+        is_held = false;
+    });
+    const goodlock::result result = goodlock::finish();
+    release.join();
+    thread.join();
+    check(result.code == GOODLOCK_OK && !result.is_settled, "a report without what was dropped isn't settled");
+}
+
+// What a thread runs: it takes until is_over to come there.
+struct slow {
+    slow() = default;
+    slow(const slow &other) : maker(other.maker)
+    {
+        while (std::this_thread::get_id() != maker && !is_over)
+            std::this_thread::yield();
+    }
+    void operator()() const
+    {
+        turns_while([](unsigned long count) { return count < 1; });
+    }
+
+    std::thread::id maker = std::this_thread::get_id();
+};
+
+// Its lane is given back: AddressSanitizer and GOODLOCK_DEBUG look after it.
+static void late()
+{
+    check(goodlock::start(4, 64) == GOODLOCK_OK, "start");
+    goodlock::thread thread{slow()};
+    const goodlock::result result = goodlock::finish();
+    is_over = true;
+    thread.join();
+    check(result.code == GOODLOCK_OK && !result.is_settled, "a report so far, as a thread is to come");
+}
+
+int main(int count, char **words)
+{
+    const std::string word = count == 2 ? words[1] : "";
+    if (word == "turns")
+        turns();
+    else if (word == "asked")
+        asked();
+    else if (word == "finish")
+        finish();
+    else if (word == "filled")
+        filled();
+    else if (word == "dropped")
+        dropped();
+    else if (word == "late")
+        late();
+    std::printf("%u passed, %u failed\n", passed, failed);
+    return failed == 0 && passed > 0 ? 0 : 1;
+}
