@@ -92,6 +92,30 @@ SHAPES = {
         "small": ["--sections 60 ask --mode full --len 8 --max 1000"],
         "large": ["--threads 4 --locks 20 ask --mode full --len 4 --max 1000"],
     },
+    # Hardly any two acquires have one guard set, so that few edges are alike; but a cycle has no more edges than there
+    # are threads, or gate locks.
+    "nested-locks": {
+        "small": ["", "--threads 2 --depth 20", "--threads 4 --depth 20 --sections 200 --gated"],
+        "large": [
+            "--sections 200",
+            "--threads 2 --locks 120 --depth 8 --sections 800",
+            "--threads 4 --depth 20 --sections 300 --gated",
+            "--threads 60 --locks 120 --depth 12 --sections 1000 --gated",
+            "--threads 200 --locks 30 --depth 6 --sections 2000 --gated --gates 2",
+        ],
+    },
+    # Few of the threads are there at the same time, which the order of segments alone tells.
+    "windows": {
+        "small": ["--threads 100 --locks 20 --sections 300 --at-once 1"],
+        "large": [
+            "",
+            "--depth 6 --sections 1500 --at-once 2",
+            "--threads 1000 --depth 6 --sections 2000",
+            "--threads 200 --depth 6 --sections 2000 --at-once 1",
+        ],
+    },
+    # What can be left out is seen in turns, one of which lets the next one leave out more.
+    "phases": {"small": ["--threads 250 --sections 2000 --depth 4"], "large": ["--threads 500", ""]},
     # Each edge leads on to thousands, and hardly any path comes back: ways that lead nowhere are to be seen early.
     "tree": {
         "small": ["--threads 300 --locks 10 --depth 9 --segments 3", "--locks 10 --depth 9 --segments 3"],

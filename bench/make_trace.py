@@ -81,6 +81,17 @@ DENSE = {
     # Each time all locks, in any order: all cycles of the first ones begin at one edge.
     "all-locks": dict(threads=6, locks=16, sections=60),
 }
+# Each time as many locks as --depth says, in any order, so that hardly any acquire has the guard set of another one. A
+# cycle has no more edges than there are threads, or gate locks where each section is under one.
+NESTED = {"nested-locks": dict(threads=3, locks=60, depth=25, sections=100)}
+# Threads that are joined before later ones are forked, each time with as many locks as --depth says.
+TURNS = {
+    # Threads of which only as many are there at once as --at-once says, with locks in any order.
+    "windows": dict(threads=50, locks=60, depth=12, sections=500, at_once=3),
+    # The threads of a wave have one order of locks, and are joined before those of the next wave are forked, which have
+    # the opposite one: there is no cycle.
+    "phases": dict(threads=1_000, locks=10, depth=3, sections=4_000, waves=5),
+}
 # Sparse graphs, in which each edge leads on to thousands and hardly any path comes back.
 SPARSE = {
     # A lock and the one above it in a tree, in both orders, by many threads: all cycles have two edges.
@@ -91,10 +102,11 @@ SPARSE = {
 # Many threads run one of two pieces of code, on all locks: millions of cycles of one mistake.
 FINDINGS = {"shared-code": dict(threads=1_000, locks=50)}
 NAMES = {"colliding-names": dict(locks=100_000), "ordinary-names": dict(locks=100_000)}
+SETTINGS = {**SHAPES, **KNOTS, **SERVERS, **PAIRS, **DENSE, **NESTED, **TURNS, **SPARSE, **FINDINGS, **NAMES}
 GENERAL = dict(
     threads=8, locks=16, depth=2, sections=20, disorder=0.1, is_ring=False, locations=500, name_length=0,
     waves=0, rejoins=0, others=0.3, strays=0.0005, shared=0,
-    segments=1, gates=1, events_a_section=0, tried=0.0, common=0, is_gated=False, is_in_turn=False,
+    segments=1, gates=1, at_once=1, events_a_section=0, tried=0.0, common=0, is_gated=False, is_in_turn=False,
 )  # fmt: skip
 
 PACKAGE = "org.example.server.storage.internal.cache.partition.segment.writer."
@@ -287,11 +299,53 @@ def two_orders(options):
         yield from nested(f"T{t}", f"Piece{section % 40}.java", [f"gate{t % 2}", *locks])
 
 
+def drawn_locks(draw, options, depth):
+    """So many different locks, in any order."""
+    return [f"lock{number}" for number in draw.sample(range(options.locks), min(depth, options.locks))]
+
+
 def all_locks(options):
     draw = random.Random(options.seed)
     for section in range(options.sections):
-        locks = [f"lock{number}" for number in draw.sample(range(options.locks), options.locks)]
+        locks = drawn_locks(draw, options, options.locks)
         yield from nested(f"T{draw.randrange(options.threads)}", f"Piece{section % 60}.java", locks)
+
+
+def nested_locks(options):
+    draw = random.Random(options.seed)
+    for section in range(options.sections):
+        locks = drawn_locks(draw, options, options.depth)
+        gates = [f"gate{draw.randrange(options.gates)}"] if options.is_gated else []
+        yield from nested(f"T{draw.randrange(options.threads)}", f"Piece{section % 60}.java", [*gates, *locks])
+
+
+def windows(options):
+    """The main thread forks and joins the others, among which the sections are shared out evenly."""
+    draw = random.Random(options.seed)
+    threads = [f"T{t}" for t in range(options.threads - 1)]
+    for t, thread in enumerate(threads):
+        if t >= options.at_once:
+            yield f"main|join({threads[t - options.at_once]})|Main.java:6"
+        yield f"main|fork({thread})|Main.java:5"
+        for section in range(max(1, options.sections // len(threads))):
+            locks = drawn_locks(draw, options, options.depth)
+            yield from nested(thread, f"Piece{section % 60}.java", locks)
+    yield from (f"main|join({thread})|Main.java:7" for thread in threads[-options.at_once :])
+
+
+def phases(options):
+    """The main thread forks and joins the others, among which the sections are shared out evenly."""
+    draw = random.Random(options.seed)
+    threads = [f"T{t}" for t in range(options.threads - 1)]
+    size = -(-len(threads) // options.waves)
+    for wave in range(options.waves):
+        its_threads = threads[wave * size : (wave + 1) * size]
+        yield from (f"main|fork({thread})|Main.java:5" for thread in its_threads)
+        for thread in its_threads:
+            for section in range(max(1, options.sections // len(threads))):
+                locks = sorted(drawn_locks(draw, options, options.depth), reverse=wave % 2 == 1)
+                yield from nested(thread, f"Piece{section % 60}.java", locks)
+        yield from (f"main|join({thread})|Main.java:6" for thread in its_threads)
 
 
 def tree(options):
@@ -506,6 +560,9 @@ MADE_BY = {
     "all-pairs": all_pairs,
     "two-orders": two_orders,
     "all-locks": all_locks,
+    "nested-locks": nested_locks,
+    "windows": windows,
+    "phases": phases,
     "tree": tree,
     "layers": layers,
     "item-locks": lambda options: Server(options).cache(),
@@ -518,9 +575,9 @@ MADE_BY = {
 }
 
 
-def main():
+def parser_of_options():
     parser = argparse.ArgumentParser(description=__doc__, formatter_class=argparse.RawDescriptionHelpFormatter)
-    parser.add_argument("--shape", choices=sorted({**SHAPES, **MADE_BY}), default="few-locks")
+    parser.add_argument("--shape", choices=sorted(SETTINGS), default="few-locks")
     parser.add_argument("--events", type=int, default=1_000_000, help="about how many lines")
     parser.add_argument("--seed", type=int, default=1)
     parser.add_argument("--threads", type=int, help="at most 1,024")
@@ -538,42 +595,61 @@ def main():
     parser.add_argument("--waves", type=int, help="groups of threads, forked and joined one after the other")
     parser.add_argument("--rejoins", type=int, help="further joins of threads that have ended")
     parser.add_argument("--segments", type=int, help="how often a knot's thread runs its piece, a connection its calls")
-    parser.add_argument("--gates", type=int, help="of a knot: gate locks, fewer than its pieces of code")
+    parser.add_argument("--gates", type=int, help="gate locks: of a knot, fewer than its pieces of code; where --gated")
+    parser.add_argument("--at-once", type=int, help="of windows: threads that are there at once")
     parser.add_argument("--events-a-section", type=int, help="of a cache: how long its maintainer's own lock is held")
     parser.add_argument("--tried", type=float, help="of a server: share of the locks inside another that are tried")
     parser.add_argument("--common", type=int, help="of all pairs: locks that each thread has, beside those of its own")
-    parser.add_argument(
-        "--gated", dest="is_gated", action="store_true", default=None, help="of all pairs: under one gate lock"
-    )
-    parser.add_argument(
-        "--in-turn", dest="is_in_turn", action="store_true", default=None, help="of all pairs: thread by thread"
-    )
+    gated, in_turn = "of all pairs: under one gate lock; of nested locks: of --gates", "of all pairs: thread by thread"
+    parser.add_argument("--gated", dest="is_gated", action="store_true", default=None, help=gated)
+    parser.add_argument("--in-turn", dest="is_in_turn", action="store_true", default=None, help=in_turn)
     parser.add_argument("--crlf", action="store_true", help="lines end with CR LF")
-    options = parser.parse_args()
-    for name, value in {
-        **GENERAL,
-        **{**SHAPES, **KNOTS, **SERVERS, **PAIRS, **DENSE, **SPARSE, **FINDINGS, **NAMES}[options.shape],
-    }.items():
+    return parser
+
+
+def complete(options):
+    """What isn't given is the shape's."""
+    for name, value in {**GENERAL, **SETTINGS[options.shape]}.items():
         if getattr(options, name, None) is None:
             grows = name == "locks" and options.shape in SERVERS
             setattr(options, name, max(4, round(value * options.events / RECORDED)) if grows else value)
+
+
+def mistake(options):
+    """Why there is no such trace; None where there is one."""
+    shape = options.shape
+    threads = 3 if shape in SERVERS else 2 if options.waves or shape in TURNS else 1
     for name, least, most in [
-        ("events", 0, 10**9), ("threads", 3 if options.shape in SERVERS else 2 if options.waves else 1, 1_024), ("locks", 1, 10**8), ("depth", 1, 64),
+        ("events", 0, 10**9), ("threads", threads, 1_024), ("locks", 1, 10**8), ("depth", 1, 64),
         ("sections", 1, 10**8), ("disorder", 0, 1), ("name_length", 0, 30_000), ("locations", 1, 10**8),
-        ("others", 0, 0.95), ("strays", 0, 1), ("waves", 0, 1_023), ("rejoins", 0, 10**8),
-        ("shared", 0, 1), ("segments", 1, 10**6), ("gates", 1, 60), ("events_a_section", 0, 10**6),
-        ("tried", 0, 1), ("common", 0, 10**8),
+        ("others", 0, 0.95), ("strays", 0, 1), ("waves", 1 if shape == "phases" else 0, 1_023), ("rejoins", 0, 10**8),
+        ("shared", 0, 1), ("segments", 1, 10**6), ("gates", 1, 60), ("at_once", 1, 1_023),
+        ("events_a_section", 0, 10**6), ("tried", 0, 1), ("common", 0, 10**8),
     ]:  # fmt: skip
         if not least <= getattr(options, name) <= most:
-            parser.error(f"--{name.replace('_', '-')} is from {least} to {most}")
-    if options.is_ring and options.depth > options.locks:
-        parser.error("--depth is at most --locks in a ring")
-    if options.shape in DENSE and not 2 <= options.locks <= 64:
-        parser.error("a dense graph has 2 to 64 --locks, as a thread may hold so many")
-    if options.shape == "tree" and options.locks < 2 or options.shape == "layers" and options.depth < 2:
-        parser.error("a tree has --locks from 2 on, and layers have --depth from 2 on")
-    if options.shape in KNOTS and (options.sections < 3 or options.gates >= options.sections):
-        parser.error("a knot has three --sections or more, and fewer --gates")
+            return f"--{name.replace('_', '-')} is from {least} to {most}"
+    is_dense_amiss = shape in DENSE and not 2 <= options.locks <= 64
+    is_knot_amiss = shape in KNOTS and (options.sections < 3 or options.gates >= options.sections)
+    is_sparse_amiss = shape == "tree" and options.locks < 2 or shape == "layers" and options.depth < 2
+    is_too_deep = shape in NESTED and options.is_gated and options.depth == 64
+    for is_amiss, why in [
+        (options.is_ring and options.depth > options.locks, "--depth is at most --locks in a ring"),
+        (is_dense_amiss, "a dense graph has 2 to 64 --locks, as a thread may hold so many"),
+        (is_too_deep, "--depth is at most 63 under a gate lock, as a thread may hold 64 locks"),
+        (is_sparse_amiss, "a tree has --locks from 2 on, and layers have --depth from 2 on"),
+        (is_knot_amiss, "a knot has three --sections or more, and fewer --gates"),
+    ]:
+        if is_amiss:
+            return why
+    return None
+
+
+def main():
+    parser = parser_of_options()
+    options = parser.parse_args()
+    complete(options)
+    if (refusal := mistake(options)) is not None:
+        parser.error(refusal)
     if options.shape in MADE_BY:
         texts = [line + "\n" for line in MADE_BY[options.shape](options)]
     else:

@@ -1,4 +1,4 @@
-"""The shapes that are made after recorded servers, and what describe.py tells of traces.
+"""The shapes that are made after recorded servers, those with drawn sections, and what describe.py tells of traces.
 
     tests/by_pytest.py bench
 
@@ -23,6 +23,8 @@ PROGRAM = os.environ.get("PROGRAM", BENCH.parent / "prebuilt" / "goodlock")
 SERVER = BENCH / "traces" / "cache-server.std.xz"
 SHAPES = sorted(make_trace.SERVERS)
 DENSE = sorted(make_trace.DENSE)
+DRAWN = sorted({**make_trace.NESTED, **make_trace.TURNS})
+SEARCH_LEAST = ("--len", "2", "--max", "1")
 SAMPLES = sorted({*(BENCH.parent / "samples").glob("*.std")} - {BENCH.parent / "samples" / "bad_line.std"})  # refused
 COUNTS = ("events", "threads", "locks", "segments", "edges")
 
@@ -78,9 +80,17 @@ def recorded():
     return describe.described(str(SERVER))
 
 
-def stats_of(text):
+def calls_of(text):
+    """The thread of each line, the word and what it is called with."""
+    for line in text.splitlines():
+        thread, call, _ = line.split("|")
+        word, _, name = call.rstrip(")").partition("(")
+        yield thread, word, name
+
+
+def stats_of(text, *words):
     """What stats counts, by name; status 1 tells of cycles, and a greater one that the trace was refused."""
-    done = subprocess.run([PROGRAM, "stats"], input=text, capture_output=True, text=True)
+    done = subprocess.run([PROGRAM, "stats", *words], input=text, capture_output=True, text=True)
     assert done.returncode in (0, 1), done.stderr
     return {name: int(count) for name, count in (line.split(": ") for line in done.stdout.splitlines())}
 
@@ -138,17 +148,22 @@ def test_shape_is_lawful(shape):
     assert [figures_of(shape)[name] for name in COUNTS] == [counted[name] for name in COUNTS]
 
 
-@pytest.mark.parametrize("shape", SHAPES)
+@pytest.mark.parametrize("shape", DRAWN)
+def test_drawn_shape_is_lawful(shape):
+    counted = stats_of(trace_of(shape), *SEARCH_LEAST)
+    assert counted["skipped"] == counted["stray"] == 0
+    assert [figures_of(shape)[name] for name in COUNTS] == [counted[name] for name in COUNTS]
+
+
+@pytest.mark.parametrize("shape", SHAPES + DENSE + DRAWN)
 def test_each_lock_has_one_holder(shape):
     holders = {}
-    for line in trace_of(shape).splitlines():
-        thread, call, _ = line.split("|")
-        word, _, lock = call.rstrip(")").partition("(")
+    for thread, word, lock in calls_of(trace_of(shape)):
         if word in ("acq", "tryacq"):
-            assert lock not in holders, line
+            assert lock not in holders, (thread, lock)
             holders[lock] = thread
         elif word == "rel":
-            assert holders.pop(lock) == thread, line
+            assert holders.pop(lock) == thread, (thread, lock)
     assert holders == {}
 
 
@@ -159,12 +174,10 @@ def test_dense_shape_is_dense(shape):
     counted = stats_of(text)
     assert counted["skipped"] == counted["stray"] == 0
     held, nested = {}, set()
-    for line in text.splitlines():
-        thread, call, _ = line.split("|")
-        word, _, lock = call.rstrip(")").partition("(")
+    for thread, word, lock in calls_of(text):
         locks = held.setdefault(thread, [])
         if word == "rel":
-            assert locks.pop() == lock, line
+            assert locks.pop() == lock, thread
             continue
         nested |= {frozenset((outer, lock)) for outer in locks if outer.startswith("lock")}
         locks.append(lock)
@@ -172,7 +185,74 @@ def test_dense_shape_is_dense(shape):
     assert 0.9 * number * (number - 1) / 2 < len(nested) <= number * (number - 1) / 2
 
 
-@pytest.mark.parametrize("shape", SHAPES + DENSE)
+def test_hardly_any_acquire_of_nested_locks_has_the_guards_of_another():
+    """An edge has those of the acquire that makes it."""
+    held, guards = {}, []
+    for thread, word, lock in calls_of(trace_of("nested-locks")):
+        locks = held.setdefault(thread, [])
+        if word == "rel":
+            locks.pop()
+            continue
+        guards += [frozenset(locks)] if len(locks) > 1 else []
+        locks.append(lock)
+    assert len(set(guards)) > 0.95 * len(guards)
+    settings = make_trace.NESTED["nested-locks"]
+    assert figures_of("nested-locks")["edges"] == settings["sections"] * settings["depth"] * (settings["depth"] - 1) / 2
+
+
+def test_each_gated_section_is_under_one_of_the_gate_locks():
+    held, gates = {}, set()
+    for thread, word, lock in calls_of(made("nested-locks", 0, "--gated", "--gates", "2")):
+        locks = held.setdefault(thread, [])
+        if word == "rel":
+            locks.pop()
+            continue
+        assert lock.startswith("gate") == (locks == [])
+        locks.append(lock)
+        gates |= {locks[0]}
+    assert gates == {"gate0", "gate1"}
+
+
+@pytest.mark.parametrize("number", [1, 2, 3])
+def test_so_many_threads_of_windows_are_there_at_once(number):
+    there, most = set(), 0
+    for thread, word, name in calls_of(made("windows", 0, "--at-once", str(number))):
+        if word == "fork":
+            there.add(name)
+        elif word == "join":
+            there.remove(name)
+        else:
+            assert thread in there
+        most = max(most, len(there))
+    assert there == set() and most == number
+
+
+def test_each_wave_of_phases_has_one_order():
+    orders, there, outer = [], set(), []
+    for thread, word, name in calls_of(trace_of("phases")):
+        if word == "fork":
+            orders += [] if there else [set()]
+            there.add(name)
+        elif word == "join":
+            there.remove(name)
+        elif word == "rel":
+            outer.pop()
+        else:
+            assert thread in there
+            orders[-1] |= {lock < name for lock in outer}
+            outer.append(name)
+    assert orders == [{True}, {False}, {True}, {False}, {True}]
+
+
+@pytest.mark.parametrize(
+    "options", [("windows", "--at-once", "1"), ("phases", "--threads", "100", "--sections", "400")]
+)
+def test_threads_of_which_none_are_there_at_once_or_at_odds_have_no_cycle(options):
+    shape, *words = options
+    assert stats_of(made(shape, 0, *words), "--len", "2")["cycles"] == 0
+
+
+@pytest.mark.parametrize("shape", SHAPES + DENSE + DRAWN)
 def test_same_seed_same_trace(shape):
     assert (
         made(shape, 20_000, "--seed", "5") == made(shape, 20_000, "--seed", "5") != made(shape, 20_000, "--seed", "6")
