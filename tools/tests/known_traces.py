@@ -7,6 +7,7 @@ import shutil
 import signal
 import subprocess
 import sys
+import textwrap
 import time
 
 TESTS = os.path.dirname(os.path.realpath(__file__))
@@ -15,6 +16,14 @@ RECORD = os.path.join(TOOLS, "goodlock-record")
 REFERENCE = os.path.join(os.path.dirname(TOOLS), "tests", "oracle", "reference.py")
 NO_EVENTS, REFUSED = 124, 125
 LIMIT = 180  # seconds: what takes longer hangs
+
+
+def example_of(page, start, end):
+    """The program that stands on a page of docs/: the lines from the one that begins so to the one that begins so."""
+    with open(os.path.join(os.path.dirname(TOOLS), "docs", page)) as file:
+        text = file.read()
+    begin = text.index("    " + start)
+    return textwrap.dedent(text[begin : text.index("\n    " + end, begin)])
 
 
 def marks_in(path, comment):

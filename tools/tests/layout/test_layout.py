@@ -78,6 +78,7 @@ PYTHON = {
         "KIND_MASK": f"({KINDS}) - 1",
         **same("HELD_LIMIT"),
         **LOST,
+        "LOST_REASON": word("losses_record", "reason"),
     },
 }
 KINDS_OF_JAVA = ("ACQUIRE", "RELEASE", "SHARED_ACQUIRE", "SHARED_RELEASE", "TRY_ACQUIRE", "TRY_SHARED_ACQUIRE")

@@ -77,6 +77,7 @@ MALFORMED = [
     (broken(put("thread", "T1")), "not a report: cycles[0] has a thread twice"),
     (report(pair("a", "b") + pair("a", "b", ("T2", "T3"))), "not a report: cycles[0] has a held lock twice"),
     (broken(put("wanted", "a")), f"{FIRST}.wanted is the held lock"),
+    (report(pair("", "")), f"{FIRST}.wanted is the held lock"),  # libgoodlock's, of locks without a name
     (broken(put("guards", [])), f"{FIRST}.guards are without the held lock"),
     (broken(put("guards", "a")), f"{FIRST}.guards is a string, not an array"),
     (broken(put("guards", ["a", 7])), f"{FIRST}.guards[1] is a number, not a string"),
