@@ -1,37 +1,46 @@
 -- A cycle has no more edges than there are exclusions that have all edges between them.
 use Rattle.std.proofs.Common.{◌≡◌, ℕ, ◌<◌, ◌≤◌, ◌⊎◌, inl, inr, Bool, List, length, get_or, Some, refl, sym, ap, subst, ◌∙◌, arith}
-use Rattle.std.specs.Prelude.{slice_get, All, Contains}
-use Rattle.std.proofs.lemmas.Bool.{cases_lt, cases_order}
-use Rattle.std.proofs.lemmas.Option.{slice_get_within, get_or_from_slice_get, same_Some}
+use Rattle.std.specs.Prelude.{◌≢◌, true, slice_get, Option, None, All, Contains}
+use Rattle.std.specs.Option.{option_map}
+use Rattle.std.proofs.lemmas.Bool.{cases_lt, cases_order, lt-ltb, or_left, or_right, false≢true}
+use Rattle.std.proofs.lemmas.Option.{slice_get_within, get_or_from_slice_get, same_Some, none-some}
 use Rattle.std_collections.proofs.IndexTableLemmas.Probe.{pigeonhole}
-use Rattle.gl_event.specs.declared.events.Segment.{Segment}
 use Rattle.gl_event.specs.declared.events.LockMode.TheVariants.{Exclusive}
+use Rattle.gl_segments.specs.Clocks.{Clocks, is_before}
 use Rattle.gl_edges.specs.declared.edge.Edge.{Edge}
-use Rattle.gl_filters.specs.Cycle.{IsCycle}
+use Rattle.gl_filters.specs.Cycle.{asks_order, first_segment, second_segment, is_ordered, IsCycle}
 use Rattle.gl_filters.specs.declared.query.Mode.{Mode}
 use Rattle.gl_pruning.specs.OffCycles.{KeepsCycles}
 use Rattle.gl_pruning.specs.bodies.Exclusions.{IsExcluded, HaveAll}
+use Rattle.gl_pruning.specs.bodies.Turns.{chain_of, IsInTurn, TakeTurns}
 use Rattle.gl_pruning.specs.declared.exclusions.Exclusion.{Exclusion}
-use Rattle.gl_pruning.specs.declared.exclusions.Exclusion.TheVariants.{OfThread, UnderLock}
+use Rattle.gl_pruning.specs.declared.exclusions.Exclusion.TheVariants.{InTurn, UnderLock}
+use Rattle.gl_pruning.specs.declared.turns.Turn.{Turn}
 use Rattle.gl_index.proofs.Lists.{element_at}
 use Rattle.gl_pruning.proofs.Back.{kept_at}
 
-module _ (before : Segment → Segment → Bool) (mode : Mode) (len : ℕ) (edges : List Edge) (kept : List Bool) (keeps : KeepsCycles before mode len edges kept)
-    (exclusions : List Exclusion) (have : HaveAll mode exclusions edges kept) (cycle : List Edge) (among : All (Contains edges) cycle) (is : IsCycle before mode len cycle) where
+turn_of : (o : Option Turn) (chain : ℕ) → option_map (λ turn. turn.chain) o ≡ Some chain → (turn : Turn) × (o ≡ Some turn) × (turn.chain ≡ chain)
+turn_of (Some turn) chain is = (turn, refl, same_Some turn.chain chain is)
+turn_of None chain is = absurd (none-some chain is)
+
+module _ (clocks : Clocks) (mode : Mode) (len : ℕ) (edges : List Edge) (kept : List Bool) (keeps : KeepsCycles (is_before clocks) mode len edges kept)
+    (turns : List Turn) (exclusions : List Exclusion) (have : HaveAll mode turns exclusions edges kept) (take : TakeTurns mode clocks turns edges kept)
+    (cycle : List Edge) (among : All (Contains edges) cycle) (is : IsCycle (is_before clocks) mode len cycle) where
   -- the edge at a place of the cycle, and what has it
   record HasPlace (k j : ℕ) : Type 0 where
     edge : Edge
     exclusion : Exclusion
     at : slice_get cycle k ≡ Some edge
     there : slice_get exclusions j ≡ Some exclusion
-    has : IsExcluded mode exclusion edge
+    has : IsExcluded mode turns exclusion edge
+    in_turn : IsInTurn mode clocks turns edge
 
   place_at : (k : ℕ) → k < length cycle → (j : ℕ) × HasPlace k j
   place_at k below =
       let e = element_at cycle k below in
-      let (i, there, flag) = kept_at before mode len edges kept keeps cycle among is k e.0 e.1 in
+      let (i, there, flag) = kept_at (is_before clocks) mode len edges kept keeps cycle among is k e.0 e.1 in
       let one = have i e.0 there flag in
-      (one.place, record { edge = e.0; exclusion = one.exclusion; at = e.1; there = one.there; has = one.has })
+      (one.place, record { edge = e.0; exclusion = one.exclusion; at = e.1; there = one.there; has = one.has; in_turn = take i e.0 there flag })
 
   place_by : (k : ℕ) → (k < length cycle) ⊎ (length cycle ≤ k) → ℕ
   place_by k (inl below) = (place_at k below).0
@@ -48,14 +57,53 @@ module _ (before : Segment → Segment → Bool) (mode : Mode) (len : ℕ) (edge
       by (inl lower) = (place_at k lower).1
       by (inr above) = absurd (omega (arith, below, above))
 
-  -- no exclusion has two edges of the cycle
-  apart : (i j : ℕ) (e f : Edge) (x : Exclusion) → i < j → slice_get cycle i ≡ Some e → slice_get cycle j ≡ Some f → IsExcluded mode x e → IsExcluded mode x f → ⊥
-  apart i j e f (OfThread thread) lower at_e at_f has_e has_f =
+  -- two edges of one chain, the first of which has the lower thread, are ordered
+  ordered : (e f : Edge) (t : Turn) → e.thread < f.thread → IsInTurn mode clocks turns e → IsInTurn mode clocks turns f
+      → slice_get turns e.thread ≡ Some t → chain_of turns f.thread ≡ Some t.chain → (asks_order mode ≡ true) × (is_before clocks (second_segment e) (first_segment f) ≡ true)
+  ordered e f t lower in_e in_f at_e at_f =
+      let over = in_f.behind.each e.thread t.chain lower at_f t at_e refl in
+      let ends = in_e.over t at_e in
+      (ap asks_order over.0, lt-ltb _ _ (omega (arith, ends, over.1)))
+
+  -- so they aren't both in the cycle
+  not_both : (i j : ℕ) (e f : Edge) → i < j → slice_get cycle i ≡ Some e → slice_get cycle j ≡ Some f → asks_order mode ≡ true → is_ordered (is_before clocks) e f ≡ true → ⊥
+  not_both i j e f lower at_e at_f asks ordered_e_f =
       let below = slice_get_within cycle j f at_f in
       let same_e : get_or cycle i e ≡ e = get_or_from_slice_get cycle i e e at_e in
       let same_f : get_or cycle j e ≡ f = get_or_from_slice_get cycle j f e at_f in
-      absurd (is.threads_differ i j e lower below (ap (λ d. d.thread) same_e ∙ has_e ∙ sym has_f ∙ ap (λ d. d.thread) (sym same_f)))
-  apart i j e f (UnderLock lock) lower at_e at_f has_e has_f =
+      let free = is.unordered asks i j e lower below in
+      false≢true (sym free ∙ (λ k. is_ordered (is_before clocks) (same_e k) (same_f k)) ∙ ordered_e_f)
+
+  differ : (i j : ℕ) (e f : Edge) → i < j → slice_get cycle i ≡ Some e → slice_get cycle j ≡ Some f → e.thread ≢ f.thread
+  differ i j e f lower at_e at_f = λ same.
+      let below = slice_get_within cycle j f at_f in
+      let same_e : get_or cycle i e ≡ e = get_or_from_slice_get cycle i e e at_e in
+      let same_f : get_or cycle j e ≡ f = get_or_from_slice_get cycle j f e at_f in
+      absurd (is.threads_differ i j e lower below (ap (λ d. d.thread) same_e ∙ same ∙ ap (λ d. d.thread) (sym same_f)))
+
+  in_one_chain : (i j : ℕ) (e f : Edge) (t u : Turn) → i < j → slice_get cycle i ≡ Some e → slice_get cycle j ≡ Some f → IsInTurn mode clocks turns e → IsInTurn mode clocks turns f
+      → slice_get turns e.thread ≡ Some t → slice_get turns f.thread ≡ Some u → t.chain ≡ u.chain → ⊥
+  in_one_chain i j e f t u lower at_e at_f in_e in_f turn_e turn_f same =
+      elim (cases_order e.thread f.thread) [
+        | inl is ↦ absurd (differ i j e f lower at_e at_f is)
+        | inr other ↦ elim other [
+          | inl below ↦
+              let by = ordered e f t below in_e in_f turn_e (ap (option_map (λ turn. turn.chain)) turn_f ∙ ap Some (sym same)) in
+              not_both i j e f lower at_e at_f by.0 (or_left _ _ by.1)
+          | inr above ↦
+              let by = ordered f e u above in_f in_e turn_f (ap (option_map (λ turn. turn.chain)) turn_e ∙ ap Some same) in
+              not_both i j e f lower at_e at_f by.0 (or_right _ _ by.1)
+        ]
+      ]
+
+  -- no exclusion has two edges of the cycle
+  apart : (i j : ℕ) (e f : Edge) (x : Exclusion) → i < j → slice_get cycle i ≡ Some e → slice_get cycle j ≡ Some f → IsInTurn mode clocks turns e → IsInTurn mode clocks turns f
+      → IsExcluded mode turns x e → IsExcluded mode turns x f → ⊥
+  apart i j e f (InTurn chain) lower at_e at_f in_e in_f has_e has_f =
+      let (t, turn_e, chain_e) = turn_of (slice_get turns e.thread) chain has_e in
+      let (u, turn_f, chain_f) = turn_of (slice_get turns f.thread) chain has_f in
+      in_one_chain i j e f t u lower at_e at_f in_e in_f turn_e turn_f (chain_e ∙ sym chain_f)
+  apart i j e f (UnderLock lock) lower at_e at_f in_e in_f has_e has_f =
       let below = slice_get_within cycle j f at_f in
       let same_e : get_or cycle i e ≡ e = get_or_from_slice_get cycle i e e at_e in
       let same_f : get_or cycle j e ≡ f = get_or_from_slice_get cycle j f e at_f in
@@ -66,7 +114,7 @@ module _ (before : Segment → Segment → Bool) (mode : Mode) (len : ℕ) (edge
   one_place : (i j : ℕ) → i < j → HasPlace i (place i) → HasPlace j (place j) → place i ≡ place j → ⊥
   one_place i j lower p q same =
       let x : p.exclusion ≡ q.exclusion = same_Some p.exclusion q.exclusion (sym p.there ∙ ap (slice_get exclusions) same ∙ q.there) in
-      apart i j p.edge q.edge p.exclusion lower p.at q.at p.has (subst (λ y. IsExcluded mode y q.edge) (sym x) q.has)
+      apart i j p.edge q.edge p.exclusion lower p.at q.at p.in_turn q.in_turn p.has (subst (λ y. IsExcluded mode turns y q.edge) (sym x) q.has)
 
   pub not_longer : length cycle ≤ length exclusions
   not_longer =

@@ -5,5 +5,7 @@ pub mod Gaps
 pub mod Kinds
 pub mod Loops
 pub mod Numbers
+pub mod Ranks
+pub mod Turns
 pub mod Users
 pub mod Walks

@@ -1,11 +1,11 @@
 //! How many edges a cycle can have at most: edges that exclude each other.
 //!
-//! No two edges of one thread stand in a cycle together. From Guarded on, neither do two that are made
-//! under one lock which is held exclusively. Where a few threads and such locks have all edges that are
-//! kept between them, a cycle has one edge of each at most. So under one lock there is none, and of two
-//! threads no path is looked at that is longer than two edges.
+//! No two edges of one thread stand in a cycle together, nor do two of threads that take turns, where the mode asks
+//! for the order. From Guarded on, neither do two that are made under one lock which is held exclusively. Where a
+//! few chains of threads and such locks have all edges that are kept between them, a cycle has one edge of each at
+//! most. So under one lock there is none, and of two threads no path is looked at that is longer than two edges.
 //!
-//! Which threads and locks these are is not proved; it is checked.
+//! Which chains and locks these are is not proved; it is checked.
 ghost use Rattle.std.specs.Prelude.{◌≡◌, ◌<◌, ◌≤◌, List, Some, true, false, length, slice_get, All, Contains, IsTrue, IfOk};
 ghost use Rattle.gl_event.specs.declared.events.LockMode.TheVariants.{Exclusive};
 ghost use Rattle.gl_edges.specs.declared.edge.Edge.{Edge};
@@ -16,8 +16,9 @@ ghost use Rattle.gl_pruning.specs.Sought.{KeepsSought};
 ghost use Rattle.gl_pruning.specs.bodies.Exclusions.{IsExcluded, IsOneOf, HaveAll};
 
 use crate::sought::Sought;
+use crate::turns::{Turn, chain_of};
 use gl_edges::Edge;
-use gl_event::{LockId, LockMode, Memory, ThreadId};
+use gl_event::{LockId, LockMode, Memory};
 use gl_filters::Mode;
 use std::alloc::Global;
 
@@ -27,19 +28,19 @@ const LOOKS: usize = 500;
 /// Edges of which no two stand in a cycle together.
 #[derive(Clone, Copy, Debug)]
 pub(crate) enum Exclusion {
-    /// Those of a thread.
-    OfThread(ThreadId),
+    /// Those of the threads of a chain, which take turns.
+    InTurn(usize),
     /// Those that are made under a lock which is held exclusively.
     UnderLock(LockId),
 }
 
 impl Exclusion {
-    // Whether the edge is one of these, in this mode.
-    fn has(&self, mode: Mode, edge: &Edge) -> bool
-        ensures { IsTrue result → IsExcluded mode self.now edge.now }
+    // Whether the edge is one of these, in this mode and with these turns.
+    fn has(&self, mode: Mode, turns: &[Turn], edge: &Edge) -> bool
+        ensures { IsTrue result → IsExcluded mode turns.now self.now edge.now }
     {
         match *self {
-            Exclusion::OfThread(thread) => edge.thread == thread,
+            Exclusion::InTurn(chain) => chain_of(turns, edge.thread) == Some(chain),
             Exclusion::UnderLock(lock) => mode.asks_guards() && is_under(edge, lock),
         }
     }
@@ -59,11 +60,11 @@ fn is_under(edge: &Edge, lock: LockId) -> bool
 }
 
 // Whether one of these has the edge.
-fn is_one_of(mode: Mode, exclusions: &[Exclusion], edge: &Edge) -> bool
-    ensures { IsTrue result → IsOneOf mode exclusions.now edge.now }
+fn is_one_of(mode: Mode, turns: &[Turn], exclusions: &[Exclusion], edge: &Edge) -> bool
+    ensures { IsTrue result → IsOneOf mode turns.now exclusions.now edge.now }
 {
     for exclusion in exclusions {
-        if exclusion.has(mode, edge) {
+        if exclusion.has(mode, turns, edge) {
             return true;
         }
     }
@@ -72,30 +73,57 @@ fn is_one_of(mode: Mode, exclusions: &[Exclusion], edge: &Edge) -> bool
 
 impl<'a> Sought<'a> {
     // Whether the edge at a position is kept, and none of these has it.
-    fn is_missed(&self, exclusions: &[Exclusion], is_kept: bool, position: usize) -> bool
+    fn is_missed(
+        &self,
+        turns: &[Turn],
+        exclusions: &[Exclusion],
+        is_kept: bool,
+        position: usize,
+    ) -> bool
         requires { position < length self.now.table.now }
         ensures { result ≡ false → (e : Edge)
             → slice_get (edges_of_table self.now.table.now) position ≡ Some e
-            → is_kept ≡ true → IsOneOf self.now.mode exclusions.now e }
+            → is_kept ≡ true → IsOneOf self.now.mode turns.now exclusions.now e }
     {
-        is_kept && !is_one_of(self.mode, exclusions, &self.table[position].0)
+        is_kept && !is_one_of(self.mode, turns, exclusions, &self.table[position].0)
     }
 
     // Whether these have all edges that are kept.
-    fn have_all(&self, exclusions: &[Exclusion], kept: &[bool]) -> bool
+    fn have_all(&self, turns: &[Turn], exclusions: &[Exclusion], kept: &[bool]) -> bool
         requires { length kept.now ≡ length self.now.table.now }
         ensures { IsTrue result
-            → HaveAll self.now.mode exclusions.now (edges_of_table self.now.table.now) kept.now }
+            → HaveAll self.now.mode turns.now exclusions.now (edges_of_table self.now.table.now)
+            kept.now }
     {
         for i in 0..self.table.len() {
-            if self.is_missed(exclusions, kept[i], i) {
+            if self.is_missed(turns, exclusions, kept[i], i) {
                 return false;
             }
         }
         true
     }
 
-    // How many edges a cycle of those that are kept has at most, as far as exclusions tell.
+    // How many edges a cycle of those that are kept has at most, as far as these turns and exclusions tell.
+    fn longest_by(&self, turns: &[Turn], exclusions: &[Exclusion], kept: &[bool]) -> usize
+        requires kept { KeepsSought self.now kept.now }
+        requires some { 0 < self.now.len }
+        ensures some { 0 < result }
+        ensures short { result ≤ self.now.len }
+        ensures all { (cycle : List Edge)
+            → All (Contains (edges_of_table self.now.table.now)) cycle
+            → IsCycle (is_before self.now.order.now) self.now.mode self.now.len cycle
+            → length cycle ≤ result }
+    {
+        if exclusions.len() >= self.len || !self.have_all(turns, exclusions, kept) {
+            return self.len;
+        }
+        if !self.take_turns(turns, kept) {
+            return self.len;
+        }
+        exclusions.len().max(1)
+    }
+
+    // The same by turns and exclusions that are sought first.
     fn longest(&self, alloc: Global, kept: &[bool]) -> Result<usize, Memory>
         requires kept { KeepsSought self.now kept.now }
         requires some { 0 < self.now.len }
@@ -107,17 +135,17 @@ impl<'a> Sought<'a> {
             → IsCycle (is_before self.now.order.now) self.now.mode self.now.len cycle
             → length cycle ≤ longest) }
     {
-        let exclusions = self.exclusions(alloc, kept)?;
-        if exclusions.len() >= self.len || !self.have_all(&exclusions, kept) {
-            return Ok(self.len);
-        }
-        Ok(exclusions.len().max(1))
+        let turns = self.turns(alloc, kept)?;
+        let exclusions = self.exclusions(alloc, &turns, kept)?;
+        Ok(self.longest_by(&turns, &exclusions, kept))
     }
 
-    /// The same, but of cycles no longer than those of the edges that are kept can be. Where a few threads, or
-    /// locks that are held exclusively, have all these edges between them, no cycle has more edges than there are of them.
+    /// The same, but of cycles no longer than those of the edges that are kept can be. Where a few chains of threads
+    /// that take turns, or locks that are held exclusively, have all these edges between them, no cycle has more edges
+    /// than there are of them.
     ///
-    /// It looks at each edge and its guards a few times. Err where memory was refused.
+    /// It looks at each edge and its guards a few times, and at 64 threads for each edge at most. Err where memory was
+    /// refused.
     pub fn shortened(&self, alloc: Global, kept: &[bool]) -> Result<Sought<'a>, Memory>
         requires kept { KeepsSought self.now kept.now }
         requires some { 0 < self.now.len }
@@ -139,7 +167,12 @@ impl<'a> Sought<'a> {
 
     // Exclusions that have all edges that are kept, if few are soon found: each time one of the first edge's that
     // has most of those left.
-    fn exclusions(&self, alloc: Global, kept: &[bool]) -> Result<Vec<Exclusion>, Memory> {
+    fn exclusions(
+        &self,
+        alloc: Global,
+        turns: &[Turn],
+        kept: &[bool],
+    ) -> Result<Vec<Exclusion>, Memory> {
         let mut left = Vec::from_slice(alloc, kept)?;
         let mut found = Vec::new(alloc);
         for _ in 0..self.len {
@@ -149,40 +182,37 @@ impl<'a> Sought<'a> {
             let Some((edge, _)) = self.table.get(first) else {
                 return Ok(found);
             };
-            let exclusion = match self.widest_lock(edge, &left) {
-                Some(lock) => Exclusion::UnderLock(lock),
-                None => Exclusion::OfThread(edge.thread),
+            let Some(chain) = chain_of(turns, edge.thread) else {
+                return Ok(found);
             };
-            self.take_away(&exclusion, &mut left);
+            let exclusion = self.widest(turns, chain, edge, &left);
+            self.take_away(turns, &exclusion, &mut left);
             found.push(exclusion)?;
         }
         Ok(found)
     }
 
-    // Of the locks that this edge is made under the one under which most of the edges are that are left, by some of them. None
-    // where the edge's thread has as many.
-    fn widest_lock(&self, edge: &Edge, left: &[bool]) -> Option<LockId> {
-        let mut widest = None;
-        let mut most = self.count(&Exclusion::OfThread(edge.thread), left);
+    // The edge's chain, or the lock that the edge is made under, where that has more of some of the edges that are left.
+    fn widest(&self, turns: &[Turn], chain: usize, edge: &Edge, left: &[bool]) -> Exclusion {
+        let mut widest = Exclusion::InTurn(chain);
+        let mut most = self.count(turns, &widest, left);
         for guard in edge.guards.as_slice() {
-            let count = self.count(&Exclusion::UnderLock(guard.lock), left);
+            let under = Exclusion::UnderLock(guard.lock);
+            let count = self.count(turns, &under, left);
             if count > most {
                 most = count;
-                widest = Some(guard.lock);
+                widest = under;
             }
         }
         widest
     }
 
     // How many of some of the edges that are left an exclusion has.
-    fn count(&self, exclusion: &Exclusion, left: &[bool]) -> usize {
+    fn count(&self, turns: &[Turn], exclusion: &Exclusion, left: &[bool]) -> usize {
         let mut count: usize = 0;
         for look in 0..LOOKS {
-            if self.is_left_of(
-                exclusion,
-                left,
-                look.saturating_mul(self.table.len()) / LOOKS,
-            ) {
+            let position = look.saturating_mul(self.table.len()) / LOOKS;
+            if self.is_left_of(turns, exclusion, left, position) {
                 count = count.saturating_add(1);
             }
         }
@@ -190,20 +220,26 @@ impl<'a> Sought<'a> {
     }
 
     // Whether the edge at a position is left and the exclusion has it.
-    fn is_left_of(&self, exclusion: &Exclusion, left: &[bool], position: usize) -> bool {
+    fn is_left_of(
+        &self,
+        turns: &[Turn],
+        exclusion: &Exclusion,
+        left: &[bool],
+        position: usize,
+    ) -> bool {
         if left.get(position) != Some(&true) {
             return false;
         }
         match self.table.get(position) {
-            Some((edge, _)) => exclusion.has(self.mode, edge),
+            Some((edge, _)) => exclusion.has(self.mode, turns, edge),
             None => false,
         }
     }
 
     // Takes away the edges that an exclusion has.
-    fn take_away(&self, exclusion: &Exclusion, left: &mut Vec<bool>) {
+    fn take_away(&self, turns: &[Turn], exclusion: &Exclusion, left: &mut Vec<bool>) {
         for position in 0..left.len() {
-            if !self.is_left_of(exclusion, left, position) {
+            if !self.is_left_of(turns, exclusion, left, position) {
                 continue;
             }
             if let Some(is_left) = left.get_mut(position) {

@@ -37,6 +37,7 @@ mod reasons;
 mod rests;
 mod rounds;
 mod sought;
+mod turns;
 mod ways;
 
 pub use alike::are_of_one_kind;

@@ -1,20 +1,20 @@
 //! Which edges may lie on a loop.
 ghost use Rattle.std.specs.Prelude.{◌≡◌, IfOk, IfSome, IfNone, map};
 ghost use Rattle.gl_filters.specs.Picked.{edges_of_table};
-ghost use Rattle.gl_pruning.specs.Loops.{IsNeverFalling, KeepsLoops};
-ghost use Rattle.gl_pruning.specs.bodies.Loops.{is_level};
-ghost use Rattle.gl_pruning.specs.bodies.Numbers.{number_in};
+ghost use Rattle.gl_pruning.specs.Loops.{KeepsLoops};
+ghost use Rattle.gl_pruning.specs.bodies.Loops.{NoneFalls, is_level};
+ghost use Rattle.gl_pruning.specs.bodies.Ranks.{rank_in};
 
-use crate::numbers::Numbers;
-use crate::ranks::ranks_of;
+use crate::ranks::{Ranks, ranks_of};
 use gl_edges::{Edge, Sample};
 use gl_event::Memory;
 use std::alloc::Global;
 
 /// Which edges of a table may lie on a loop of the lock-order graph, and so in a cycle: for each a flag.
-/// Those have none that lead from a lock to another from which none leads back.
+/// Those have none that lead from a lock to another from which none leads back. Readers don't wait for readers, so
+/// edges of readers alone are on none.
 ///
-/// It takes four look-ups for each edge, and two walks through the graph.
+/// It takes four look-ups for each edge, or five where there are readers, and two walks through the graph.
 ///
 /// Err where memory was refused.
 pub fn edges_on_loops(alloc: Global, table: &[(Edge, Sample)]) -> Result<Vec<bool>, Memory>
@@ -27,28 +27,28 @@ pub fn edges_on_loops(alloc: Global, table: &[(Edge, Sample)]) -> Result<Vec<boo
     }
 }
 
-// Which edges lead from a lock to one of the same rank, where the rank falls along no edge.
+// Which edges wait for one of the same rank, where none waits for one of a lower rank.
 fn level_edges(
     alloc: Global,
     table: &[(Edge, Sample)],
-    ranks: &Numbers,
+    ranks: &Ranks,
 ) -> Result<Option<Vec<bool>>, Memory>
     ensures certified { IfOk result
         (λ level. IfSome level
-        (λ flags. IsNeverFalling (number_in ranks.now) (edges_of_table table.now))) }
+        (λ flags. NoneFalls (rank_in ranks.now) (edges_of_table table.now))) }
     ensures refused { IfOk result
         (λ level. IfNone level
-        (¬ IsNeverFalling (number_in ranks.now) (edges_of_table table.now))) }
+        (¬ NoneFalls (rank_in ranks.now) (edges_of_table table.now))) }
     ensures level { IfOk result
         (λ level. IfSome level
         (λ flags. flags.items
-        ≡ map (is_level (number_in ranks.now)) (edges_of_table table.now))) }
+        ≡ map (is_level (rank_in ranks.now)) (edges_of_table table.now))) }
 {
     let mut level = Vec::new(alloc);
     for i in 0..table.len() {
         let edge = &table[i].0;
-        let held = ranks.number(edge.held);
-        let wanted = ranks.number(edge.wanted);
+        let held = ranks.rank(edge.held, edge.held_mode);
+        let wanted = ranks.least(edge.wanted, edge.wanted_mode);
         if held > wanted {
             return Ok(None);
         }

@@ -1,7 +1,25 @@
--- Edges that may lie on a loop, by ranks of their locks.
-use Rattle.std.specs.Prelude.{ℕ, Bool, ◌==◌}
+-- Edges that may lie on a loop, by ranks of those who hold their locks.
+use Rattle.std.specs.Prelude.{ℕ, ◌≤◌, Bool, ◌==◌, List, All, min}
+use Rattle.gl_event.specs.declared.events.LockMode.{LockMode}
+use Rattle.gl_event.specs.declared.events.LockMode.TheVariants.{Exclusive, Shared}
 use Rattle.gl_edges.specs.declared.edge.Edge.{Edge}
 
--- the edge leads from a lock to one of the same rank
-abbrev pub is_level : (ℕ → ℕ) → Edge → Bool
-is_level rank e = rank e.held == rank e.wanted
+-- the least rank of those who hold the lock and keep out who wants it in this mode
+abbrev pub least : (ℕ → LockMode → ℕ) → ℕ → LockMode → ℕ
+least rank lock Exclusive = min (rank lock Exclusive) (rank lock Shared)
+least rank lock Shared = rank lock Exclusive
+
+-- the rank of the edge's thread, and the least of those for whom it waits
+abbrev pub held_rank : (ℕ → LockMode → ℕ) → Edge → ℕ
+held_rank rank e = rank e.held e.held_mode
+
+abbrev pub wanted_rank : (ℕ → LockMode → ℕ) → Edge → ℕ
+wanted_rank rank e = least rank e.wanted e.wanted_mode
+
+-- no edge waits for one of a lower rank
+abbrev pub NoneFalls : (ℕ → LockMode → ℕ) → List Edge → Type 0
+NoneFalls rank edges = All (λ e. held_rank rank e ≤ wanted_rank rank e) edges
+
+-- the edge waits for one of its own rank
+abbrev pub is_level : (ℕ → LockMode → ℕ) → Edge → Bool
+is_level rank e = held_rank rank e == wanted_rank rank e

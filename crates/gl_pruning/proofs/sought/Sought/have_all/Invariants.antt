@@ -7,4 +7,4 @@ use Rattle.gl_pruning.proofs.sought.Sought.have_all.Given as goal
 
 -- they have those of the edges so far that are kept
 abbrev pub invariant-loop-i : goal.invariant-loop-i
-invariant-loop-i l = (i : ℕ) (e : Edge) → i < l.i → slice_get (edges_of_table l.self.table.now) i ≡ Some e → slice_get l.kept i ≡ Some true → IsOneOf l.self.mode l.exclusions e
+invariant-loop-i l = (i : ℕ) (e : Edge) → i < l.i → slice_get (edges_of_table l.self.table.now) i ≡ Some e → slice_get l.kept i ≡ Some true → IsOneOf l.self.mode l.turns l.exclusions e

@@ -1,0 +1,21 @@
+-- Ranks of those who hold locks.
+use Rattle.std.specs.Prelude.{ℕ, Option, Some, None}
+use Rattle.gl_event.specs.declared.events.LockMode.{LockMode}
+use Rattle.gl_event.specs.declared.events.LockMode.TheVariants.{Exclusive, Shared}
+use Rattle.gl_pruning.specs.declared.numbers.Numbers.{Numbers}
+use Rattle.gl_pruning.specs.declared.ranks.Ranks.{Ranks}
+use Rattle.gl_pruning.specs.bodies.Numbers.{number_in}
+
+-- the number of a lock by the first numbers, or by the others where there are none
+abbrev pub number_in_either : Option Numbers → Numbers → ℕ → ℕ
+number_in_either (Some numbers) others lock = number_in numbers lock
+number_in_either None others lock = number_in others lock
+
+-- the rank of those who hold the lock as readers
+abbrev pub shared_rank_in : Ranks → ℕ → ℕ
+shared_rank_in ranks lock = number_in_either ranks.shared ranks.exclusive lock
+
+-- the rank of those who hold the lock in this mode
+abbrev pub rank_in : Ranks → ℕ → LockMode → ℕ
+rank_in ranks lock Exclusive = number_in ranks.exclusive lock
+rank_in ranks lock Shared = shared_rank_in ranks lock

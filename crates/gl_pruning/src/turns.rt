@@ -1,0 +1,278 @@
+//! Threads that take turns: chains of threads of which each has its edges before the next one begins its own.
+//!
+//! Such edges are ordered by forks and joins, so no two of them stand in a cycle together where the mode asks for
+//! that. A pool that joins its threads before it forks others has few chains, however many threads come and go.
+//!
+//! Chains are sought greedily, in the order in which threads are numbered. That isn't proved; they are checked.
+ghost use Rattle.std.specs.Prelude.{◌≡◌, ◌<◌, ◌≤◌, Some, true, false, length, slice_get, IsTrue, IfSome};
+ghost use Rattle.gl_edges.specs.declared.edge.Edge.{Edge};
+ghost use Rattle.gl_filters.specs.Picked.{edges_of_table};
+ghost use Rattle.gl_pruning.specs.bodies.Turns.{chain_of, IsOver, IsBehind, IsInTurn, TakeTurns};
+ghost use Rattle.gl_pruning.specs.declared.turns.Turn.{Turn};
+
+use crate::sought::Sought;
+use gl_edges::Edge;
+use gl_event::{Memory, Segment, ThreadId};
+use gl_filters::Mode;
+use std::alloc::Global;
+
+// How many chains it is looked at whether a thread may be the next of them: the last ones that began.
+const CHAINS: usize = 16;
+
+// How many threads are looked at for each edge at most, as it is checked that chains are in turn.
+const LOOKS_OF_EDGE: usize = 64;
+
+/// The turn of a thread: its chain, by a number, and the last segment in which an edge of the thread ends.
+#[derive(Clone, Copy, Debug)]
+pub(crate) struct Turn {
+    pub(crate) chain: usize,
+    pub(crate) last: u32,
+}
+
+/// The chain of a thread.
+pub(crate) fn chain_of(turns: &[Turn], thread: ThreadId) -> Option<usize>
+    ensures { result ≡ chain_of turns.now thread }
+{
+    turns.get(thread.number() as usize).map(|turn| turn.chain)
+}
+
+// The number of the chain of threads without edges.
+const NO_CHAIN: usize = usize::MAX;
+
+// The segment before which it was last seen that all others of a chain are over, and how many threads may still be looked at.
+#[derive(Drop)]
+struct Looked {
+    last: Option<Segment>,
+    left: usize,
+}
+
+impl Looked {
+    // Whether it was last looked at this segment.
+    fn was_at(&self, begin: &Segment) -> bool
+        ensures { IsTrue result → self.now.last ≡ Some begin.now }
+    {
+        match &self.last {
+            Some(last) => last == begin,
+            None => false,
+        }
+    }
+}
+
+// The first segment in which an edge of a thread begins, and the last in which one ends.
+#[derive(Clone, Copy)]
+struct Span {
+    thread: ThreadId,
+    first: u32,
+    last: u32,
+}
+
+impl Span {
+    // With one edge more.
+    fn with(self, edge: &Edge) -> Span {
+        Span {
+            thread: self.thread,
+            first: self.first.min(edge.first),
+            last: self.last.max(edge.second),
+        }
+    }
+}
+
+// Where a chain ends so far: its last thread, and the last segment of that in which an edge ends.
+#[derive(Clone, Copy)]
+struct ChainEnd {
+    thread: ThreadId,
+    last: u32,
+}
+
+// Whether the edge is over by the last segment of its thread's turn.
+fn ends_in_turn(turns: &[Turn], edge: &Edge) -> bool
+    ensures { IsTrue result → (turn : Turn)
+        → slice_get turns.now edge.now.thread ≡ Some turn → edge.now.second ≤ turn.last }
+{
+    match turns.get(edge.thread.number() as usize) {
+        Some(turn) => edge.second <= turn.last,
+        None => true,
+    }
+}
+
+impl Sought<'_> {
+    // Whether the order counts and a thread, if it is of this chain, has its edges before a segment begins.
+    fn is_over(&self, turns: &[Turn], thread: u32, chain: usize, begin: &Segment) -> bool
+        ensures { IsTrue result
+            → IsOver self.now.mode self.now.order.now turns.now chain begin.now thread }
+    {
+        let Some(turn) = turns.get(thread as usize) else {
+            return true;
+        };
+        if turn.chain != chain {
+            return true;
+        }
+        self.mode == Mode::Full && turn.last < self.order.ahead(*begin, ThreadId::new(thread))
+    }
+
+    // Whether all threads with lower numbers and the same chain are over before a segment.
+    fn is_behind(&self, turns: &[Turn], begin: &Segment) -> bool
+        ensures { IsTrue result → IsBehind self.now.mode self.now.order.now turns.now begin.now }
+    {
+        let Some(chain) = chain_of(turns, begin.thread) else {
+            return true;
+        };
+        for thread in 0..begin.thread.number() {
+            if !self.is_over(turns, thread, chain, begin) {
+                return false;
+            }
+        }
+        true
+    }
+
+    // The same, unless it was just seen of this segment, or too much was looked at before.
+    fn is_seen_behind(&self, turns: &[Turn], begin: Segment, looked: &mut Looked) -> bool
+        requires { IfSome looked.old.last (IsBehind self.now.mode self.now.order.now turns.now) }
+        ensures last { IfSome looked.new.last
+            (IsBehind self.now.mode self.now.order.now turns.now) }
+        ensures behind { IsTrue result
+            → IsBehind self.now.mode self.now.order.now turns.now begin }
+    {
+        if looked.was_at(&begin) {
+            return true;
+        }
+        let looks = begin.thread.number() as usize;
+        if looked.left < looks || !self.is_behind(turns, &begin) {
+            return false;
+        }
+        looked.left -= looks;
+        looked.last = Some(begin);
+        true
+    }
+
+    // Whether the edge is in the turn of its thread.
+    fn is_in_turn(&self, turns: &[Turn], edge: &Edge, looked: &mut Looked) -> bool
+        requires { IfSome looked.old.last (IsBehind self.now.mode self.now.order.now turns.now) }
+        ensures last { IfSome looked.new.last
+            (IsBehind self.now.mode self.now.order.now turns.now) }
+        ensures turn { IsTrue result
+            → IsInTurn self.now.mode self.now.order.now turns.now edge.now }
+    {
+        let begin = Segment {
+            thread: edge.thread,
+            index: edge.first,
+        };
+        ends_in_turn(turns, edge) && self.is_seen_behind(turns, begin, looked)
+    }
+
+    // Whether the edge at a position is kept and not in the turn of its thread.
+    fn is_out_of_turn(
+        &self,
+        turns: &[Turn],
+        is_kept: bool,
+        position: usize,
+        looked: &mut Looked,
+    ) -> bool
+        requires there { position < length self.now.table.now }
+        requires last { IfSome looked.old.last
+            (IsBehind self.now.mode self.now.order.now turns.now) }
+        ensures last { IfSome looked.new.last
+            (IsBehind self.now.mode self.now.order.now turns.now) }
+        ensures turn { result ≡ false → (e : Edge)
+            → slice_get (edges_of_table self.now.table.now) position ≡ Some e
+            → is_kept ≡ true → IsInTurn self.now.mode self.now.order.now turns.now e }
+    {
+        is_kept && !self.is_in_turn(turns, &self.table[position].0, looked)
+    }
+
+    /// Whether the edges that are kept are in the turns of their threads, as far as that is soon seen.
+    pub(crate) fn take_turns(&self, turns: &[Turn], kept: &[bool]) -> bool
+        requires { length kept.now ≡ length self.now.table.now }
+        ensures { IsTrue result
+            → TakeTurns self.now.mode self.now.order.now turns.now
+            (edges_of_table self.now.table.now) kept.now }
+    {
+        let mut looked = Looked {
+            last: None,
+            left: self.table.len().saturating_mul(LOOKS_OF_EDGE),
+        };
+        for i in 0..self.table.len() {
+            if self.is_out_of_turn(turns, kept[i], i, &mut looked) {
+                return false;
+            }
+        }
+        true
+    }
+
+    /// Turns of the threads, by their numbers, for the edges that are kept.
+    pub(crate) fn turns(&self, alloc: Global, kept: &[bool]) -> Result<Vec<Turn>, Memory> {
+        let spans = self.spans(alloc, kept)?;
+        let mut turns = Vec::with_capacity(alloc, spans.len())?;
+        let mut chains = Vec::new(alloc);
+        for span in spans.iter() {
+            turns.push(match span {
+                Some(span) => self.next_turn(&mut chains, span)?,
+                None => Turn {
+                    chain: NO_CHAIN,
+                    last: 0,
+                },
+            })?;
+        }
+        Ok(turns)
+    }
+
+    // The spans of the threads, by their numbers, as far as they have edges that are kept.
+    fn spans(&self, alloc: Global, kept: &[bool]) -> Result<Vec<Option<Span>>, Memory> {
+        let mut spans: Vec<Option<Span>> = Vec::new(alloc);
+        for ((edge, _), &is_kept) in self.table.iter().zip(kept) {
+            let thread = edge.thread.number() as usize;
+            if !is_kept {
+                continue;
+            }
+            if spans.len() <= thread {
+                spans.resize(thread.saturating_add(1), None)?;
+            }
+            let one = Span {
+                thread: edge.thread,
+                first: edge.first,
+                last: edge.second,
+            };
+            if let Some(span) = spans.get_mut(thread) {
+                *span = Some(span.unwrap_or(one).with(edge));
+            }
+        }
+        Ok(spans)
+    }
+
+    // The thread's turn: in one of the last chains, where that ends before the thread's edges begin, or in a new one.
+    fn next_turn(&self, chains: &mut Vec<ChainEnd>, span: &Span) -> Result<Turn, Memory> {
+        let end = ChainEnd {
+            thread: span.thread,
+            last: span.last,
+        };
+        let begin = Segment {
+            thread: span.thread,
+            index: span.first,
+        };
+        let chain = self.chain_before(chains, &begin);
+        match chains.get_mut(chain) {
+            Some(place) => *place = end,
+            None => chains.push(end)?,
+        }
+        Ok(Turn {
+            chain,
+            last: span.last,
+        })
+    }
+
+    // The number of one of the last chains that ends before the segment, or of a new one.
+    fn chain_before(&self, chains: &[ChainEnd], begin: &Segment) -> usize {
+        let first = chains.len().saturating_sub(CHAINS);
+        for (chain, end) in chains.iter().enumerate().skip(first) {
+            if self.ends_before(end, begin) {
+                return chain;
+            }
+        }
+        chains.len()
+    }
+
+    // Whether the order counts and a chain ends before the segment.
+    fn ends_before(&self, end: &ChainEnd, begin: &Segment) -> bool {
+        self.mode == Mode::Full && end.last < self.order.ahead(*begin, end.thread)
+    }
+}
