@@ -12,7 +12,8 @@
 //! In each round edges are left out for one reason after the other. Before the last round the efforts
 //! are bound, so what comes too dear is tried again. In the last one edges are left out with all the
 //! effort that each reason makes at most, and again as long as that leaves out many, and the search then goes on to its end, on
-//! several threads if there are any. As a round goes on in one thread, it has so many steps at most then.
+//! several threads if there are any. Where there are, a round's steps are bound, as it goes on in one thread: what needs more
+//! is dealt out.
 ghost use Rattle.std.specs.Prelude.{◌≡◌, ◌<◌, ◌≤◌, ◌*◌, ◌-◌, ◌^◌, min, max, take, IfOk, OnOk};
 ghost use Rattle.gl_segments.specs.Clocks.{is_before};
 ghost use Rattle.gl_filters.specs.Picked.{edges_of_table};
@@ -32,8 +33,7 @@ use std::thread::Threads;
 // The number of the last round, from 0.
 const LAST: usize = 1;
 
-// How many steps a round has at most where there are several threads, as it goes on in one of them: what needs more is
-// dealt out.
+// How many steps a round has at most where there are several threads.
 const STEPS_ALONE: usize = 32_000_000;
 
 // How many steps a search has at first for each edge, and how many at least.
