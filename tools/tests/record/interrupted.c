@@ -3,9 +3,9 @@
  *     interrupted STRETCH FORM FILL FURTHER STRIDE LAST
  *
  * A thread does a stretch a few times, so that all of it is known and left out. Then it does it one instruction after
- * the other, and after so many of them a signal comes, whose handler takes locks in this form. Then it does it once
- * more, and calls the handler itself wherever a signal may have come: so all threads do the same, but for where the
- * signal came. That is after STRIDE more instructions in each, until the stretch is over or LAST is reached; in the
+ * the other, and after so many of them a signal comes, whose handler takes locks in this form. Then, or before, it does
+ * it once more, and calls the handler itself wherever a signal may have come: so all threads do the same, but for where
+ * the signal came. That is after STRIDE more instructions in each, until the stretch is over or LAST is reached; in the
  * first one there is none. FILL: before, so many words of events are written that stay, so that the chunk runs full
  * meanwhile. FURTHER: so many instructions after the signal another one comes, which may interrupt its handler; -1:
  * none does. */
@@ -89,6 +89,17 @@ static void nested(void)
     between();
 }
 
+static void within(void)
+{
+    pthread_mutex_lock(&ring[1]);
+    mark();
+    pthread_mutex_lock(&ring[2]);
+    pthread_mutex_unlock(&ring[2]);
+    mark();
+    pthread_mutex_unlock(&ring[1]);
+}
+
+/* Hand over hand. */
 static void walk(void)
 {
     mark();
@@ -159,12 +170,18 @@ static void join(void)
     handler(0);
 }
 
+enum probes { NEVER, BEFORE, AFTER };
+
 static const struct stretch {
     const char *name;
     void (*run)(void);
-    int held; /* whether the first lock of the ring is held around it */
-} stretches[] = {{"nested", nested, 0}, {"walk", walk, 1}, {"walk_on", walk_on, 1},
-                 {"fail", fail, 1},     {"make", make, 1}, {"join", join, 1}};
+    int held;           /* whether the first lock of the ring is held around it */
+    enum probes probes; /* when the handler is called in it without a signal */
+} stretches[] = {
+    {"nested", nested, 0, AFTER},   {"within", within, 0, NEVER},  {"walk", walk, 1, AFTER},
+    {"walk_on", walk_on, 1, AFTER}, {"known", walk_on, 1, BEFORE}, {"fail", fail, 1, AFTER},
+    {"make", make, 1, AFTER},       {"join", join, 1, AFTER},
+};
 
 static void *worker(void *value)
 {
@@ -179,12 +196,13 @@ static void *worker(void *value)
     handler(0);
     if (stretch->held)
         pthread_mutex_lock(&ring[0]);
-    for (int i = 0; i < 3; i++)
+    probing = stretch->probes == BEFORE;
+    for (int i = 0; i < 4; i++, probing = 0)
         stretch->run();
     stepping = 1;
     stretch->run();
     stepping = 0;
-    probing = 1;
+    probing = stretch->probes == AFTER;
     stretch->run();
     if (stretch->held)
         pthread_mutex_unlock(&ring[0]);

@@ -44,15 +44,32 @@ def check(*words, least):
         assert edges_of(lines) == edges, "%s, the edges differ" % where
 
 
-@pytest.mark.parametrize("fill", range(490, 496))
+@pytest.mark.parametrize("fill", (492, 493))
 def test_where_a_chunk_ends(fill):
-    """The handler fills the chunk that the call has in hand, or leaves room for one word, or the call finds it full."""
-    check("walk_on", WALK, fill, -1, 1, 180, least=140)
+    """The handler fills the chunk that the call has in hand, and goes on in the next one."""
+    check("walk_on", WALK, fill, -1, 1, 180, least=150)
+
+
+@pytest.mark.parametrize("fill", (483, 484))
+def test_where_a_chunk_ends_and_all_is_known(fill):
+    """The call leaves out its own events, and none of the handler's in both chunks."""
+    check("known", WALK, fill, -1, 1, 300, least=250)
+
+
+def test_what_is_news_stays():
+    """What a handler does for the first time is in the trace, though the call that it came in is left out. The first thread isn't
+    interrupted, and the stretch of the last one was over before."""
+    _, *threads, _ = threads_of("within", WALK, 0, -1, 5, LAST)
+    assert len(threads) >= 60, "only %d threads were interrupted, or are in the trace" % len(threads)
+    for place, lines in enumerate(threads):
+        edges = {(edge[1], edge[2]) for edge in edges_of(lines)}
+        for lock in ("own", "own+0x28"):
+            assert ("ring+0x28", lock) in edges, "%d * 5 instructions after the mark, an edge is lost" % place
 
 
 def test_amid_nested_locks():
     """What the handler takes amid a call isn't known in a context that the trace doesn't have."""
-    check("nested", WALK, 0, -1, 4, LAST, least=120)
+    check("nested", WALK, 0, -1, 5, LAST, least=100)
 
 
 def test_amid_a_call_that_fails():
@@ -62,9 +79,9 @@ def test_amid_a_call_that_fails():
 
 def test_amid_a_fork():
     """Nor in the next segment, before the fork is in the trace."""
-    check("make", WALK, 0, -1, 7, 1000, least=100)
+    check("make", WALK, 0, -1, 8, 1000, least=100)
 
 
-@pytest.mark.parametrize("further", (2, 31, 78))
+@pytest.mark.parametrize("further", (2, 78))
 def test_two_signals(further):
     check("walk_on", WALK, 492, further, 13, LAST, least=20)
