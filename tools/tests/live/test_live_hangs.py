@@ -167,6 +167,28 @@ def test_hang_is_told_once_though_others_come_to_wait(command):
     assert " hung: " + HANGING[command] in live.said, live.said
 
 
+CIRCLES = [
+    "main.1:holds waits for a at {0}, which main.2:holds holds; main.2:holds waits for b at {0}, which main.1:holds holds",
+    "main.3:holds_another waits for gate at {1}, which main.4:holds_another holds; "
+    "main.4:holds_another waits for robust at {1}, which main.3:holds_another holds",
+]
+
+
+@pytest.mark.parametrize("later", ["", "1"], ids=["at_once", "later"])
+def test_each_circle_is_told(later):
+    """The first one stays, and others are told behind it."""
+    first, second = (text.format(place("second_of_two"), place("second_of_two_others")) for text in CIRCLES)
+    live = Live("./live", "hangs_twice", *later.split()).is_ready()
+    if later:
+        live.wait_for_words(" hangs: " + first + "\n")
+        live.process.stdin.write(b"\n")
+        live.process.stdin.flush()
+    live.wait_for_words(" hangs: " + first + "; " + second + "\n")
+    os.kill(live.program, signal.SIGKILL)
+    live.end()
+    assert " hung: " + first + "; " + second + "\n" in live.said, live.said
+
+
 def test_first_thread_that_ended():
     live = Live("./live", "holder_ended", "2").is_ready()
     live.wait_for_words(" hangs: " + ENDED % ("main.1:one_way", FIRST, "main"))
