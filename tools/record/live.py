@@ -364,7 +364,7 @@ class Follower:
         paths = process_paths(processes, self.path, self.first)
         for key in due:
             if due[key] and key in processes:
-                self.report(processes[key], copied[key], paths[key], due[key])
+                self.tell(processes[key], copied[key], paths[key], due[key])
         self.made = time.monotonic()
 
     def what_is_due(self, key, copy, followed, wants_lines):
@@ -375,6 +375,17 @@ class Follower:
             return "asked"
         is_quiet = copy.hash == followed.hash or time.monotonic() > self.made + UNQUIET
         return "quiet" if copy.hash != followed.reported and is_quiet else None
+
+    def tell(self, process, copy, path, why):
+        """What is due of a process. A report that can't be made keeps nothing else from being told."""
+        followed = self.followed[process.key]
+        try:
+            self.report(process, copy, path, why)
+        except (BuildError, ConvertError, OSError) as error:
+            self.say_once("no report so far: %s" % error)
+        if why == "hangs":
+            followed.hangs = copy.round
+            self.say("%s hangs: %s" % (described(process), round_text(process, copy.round)))
 
     def report(self, process, copy, path, why):
         """Makes a report so far: it is written if somebody asked, and if it has more cycles than those before."""
@@ -392,9 +403,6 @@ class Follower:
         if has_more:
             self.say("%s.lines: %s so far; %s" % (path, report.count(), described(process)))
         followed.listed = report.cycles, report.more
-        if why == "hangs":
-            followed.hangs = copy.round
-            self.say("%s hangs: %s" % (described(process), round_text(process, copy.round)))
 
     def try_to_write(self, path, data):
         """Adds a line; whether it could be. What standard error tells doesn't hang on it."""

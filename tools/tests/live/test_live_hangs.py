@@ -140,6 +140,53 @@ def test_program_that_still_runs_is_looked_at_twice(monkeypatch, later, running,
     assert (time.monotonic() - start >= 0.5) == bool(running), "the time between the looks"
 
 
+def follower_of(monkeypatch, answers):
+    """One whose reports are these, by process; what it says."""
+    import live
+
+    names = SimpleNamespace(thread_name=str, places=SimpleNamespace(text=str), locks={})
+    processes = {(pid, 0): SimpleNamespace(key=(pid, 0), command="p", names=names) for pid in answers}
+    copies = {
+        key: SimpleNamespace(round=CIRCLE, began=at, ended=at, hash=1, chunks=[1]) for at, key in enumerate(processes)
+    }
+    said = []
+
+    def report_of(recording, process, *_):
+        if isinstance(answers[process.key[0]], Exception):
+            raise answers[process.key[0]]
+        return answers[process.key[0]]
+
+    monkeypatch.setattr(live, "copy_events", lambda recording: copies)
+    monkeypatch.setattr(live, "named_processes", lambda *_: (processes, []))
+    monkeypatch.setattr(live, "report_of", report_of)
+    follower = live.Follower(
+        SimpleNamespace(directory="r.raw", remove_work=lambda: None), "r.json", 7, None, None, False, said.append
+    )
+    for key in processes:
+        follower.followed[key] = live.Followed()
+        follower.followed[key].round, follower.followed[key].since = CIRCLE, -1.0
+    return follower, said
+
+
+def test_hang_is_told_though_no_report_is_made(monkeypatch):
+    """As where there isn't enough memory for one. Nor does it keep another process from being told of."""
+    from convert import ConvertError
+    from live import Report
+
+    answers = {7: ConvertError("goodlock_live fails"), 8: Report(1, 0, False, b""), 9: Report(0, 1, False, b"{}\n")}
+    follower, said = follower_of(monkeypatch, answers)
+    follower.try_to_look(False)
+    assert said[0] == "no report so far: goodlock_live fails", str(said)
+    assert "no report so far: r.json.8: there wasn't enough memory" in said, str(said)
+    assert "r.json.9.lines: 1 cycle so far; process 9 (p)" in said, str(said)
+    assert [text.split(" waits")[0] for text in said if " hangs: " in text] == [
+        "process %d (p) hangs: 0" % pid for pid in answers
+    ]
+    told = len(said)
+    follower.try_to_look(False)
+    assert len(said) == told, str(said[told:])
+
+
 ENDED = "%s waits for a at live.c:%d, which %s holds, though it has ended"
 FIRST = int(MARKS["live.c", "first"].split(":")[1])
 HANGING = {

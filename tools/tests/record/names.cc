@@ -1,13 +1,11 @@
 // Locks in functions and namespaces with all kinds of names, each taken once.
 #include <mutex>
 
-namespace
-{
+namespace {
 std::mutex unnamed;
 }
 
-namespace space
-{
+namespace space {
 template <typename Type> struct Kind {
     static std::mutex of_a_class;
     std::mutex &operator()(int) const
