@@ -41,7 +41,7 @@ from convert import (
 from family import FORWARDED, adopt_orphans
 from recording import maps_file
 
-WAY_JSON, WAY_SETTLED, WAY_SHORT = 1, 2, 4
+WAY_JSON, WAY_SETTLED, WAY_SHORT, WAY_COUNT = 1, 2, 4, 8
 MODES = {"basic": 0, "guarded": 1, "full": 2}  # as goodlock.h has them
 BATCH = 16  # windows that are reported at once
 # What the library answers, and what goodlock_live adds.
@@ -387,10 +387,20 @@ class Follower:
             followed.hangs = copy.round
             self.say("%s hangs: %s" % (described(process), round_text(process, copy.round)))
 
+    def counted(self, process):
+        """A report that nobody may ask to see: the JSON of all its edges takes far longer, and far more memory, than to count the cycles.
+        None of windows, whose cycles are told apart by their edges.
+        """
+        if windows(process):
+            return None
+        return next(answered_reports(process, [None], self.question, WAY_COUNT, self.recording.work_file("report")))
+
     def report(self, process, copy, path, why):
         """Makes a report so far: it is written if somebody asked, and if it has more cycles than those before."""
         followed = self.followed[process.key]
-        report = report_of(self.recording, process, self.question, False, True, True)
+        report = self.counted(process) if why == "quiet" else None
+        if report is None or (report.code == OK and (report.cycles, report.more) > followed.listed):
+            report = report_of(self.recording, process, self.question, False, True, True)
         followed.reported = copy.hash
         if report.code == WITHOUT_EVENTS:
             return

@@ -37,6 +37,7 @@
 #define WAY_JSON 1u    /* as JSON, else as text */
 #define WAY_SETTLED 2u /* of a process that has ended */
 #define WAY_SHORT 4u   /* of the JSON's edges only those of cycles */
+#define WAY_COUNT 8u   /* none of these: how many cycles there are is all that is asked for */
 #define WITHOUT_EVENTS 1000u
 
 #define RING 256u
@@ -971,7 +972,7 @@ static void report_session(struct request *request, struct report *report, const
             make(&report->session, report->question.mode, report->question.length, report->question.most, &made);
     if (report->code == GOODLOCK_OK)
         report->code = goodlock_cycles(&made, &cycles, &more);
-    if (report->code == GOODLOCK_OK)
+    if (report->code == GOODLOCK_OK && !(ways & WAY_COUNT))
         report_write(report, &made, ways, path);
     goodlock_report_free(&made);
     answer[1] = cycles;

@@ -98,6 +98,20 @@ def test_round_tells_how_far_its_threads_are():
     assert len({tuple(found[:4] for found in rounds) for rounds in seen}) == 1, "the waits differ: %s" % seen
 
 
+def test_report_that_is_counted_alone():
+    """Nothing is written of it: a look for cycles takes what they take to be found, and not what all edges take as JSON."""
+    from live import OK, WAY_COUNT, WAY_JSON, Question, answered_reports, copy_events, named_processes
+
+    recording = left_hanging()
+    processes, _ = named_processes(recording, copy_events(recording), {}, False)
+    (process,) = processes.values()
+    for way, is_written in ((WAY_COUNT, False), (WAY_JSON, True)):
+        question = Question("full", 4, 1000)
+        report = next(answered_reports(process, [None], question, way, recording.work_file("report")))
+        assert (report.code, report.cycles, report.more) == (OK, 1, False), report.fault()
+        assert bool(report.data) == is_written, report.data
+
+
 def copied(rounds, began, took=0.0):
     return SimpleNamespace(round=rounds, began=began, ended=began + took)
 
@@ -159,6 +173,7 @@ def follower_of(monkeypatch, answers):
     monkeypatch.setattr(live, "copy_events", lambda recording: copies)
     monkeypatch.setattr(live, "named_processes", lambda *_: (processes, []))
     monkeypatch.setattr(live, "report_of", report_of)
+    monkeypatch.setattr(live.Follower, "counted", lambda follower, process: None)
     follower = live.Follower(
         SimpleNamespace(directory="r.raw", remove_work=lambda: None), "r.json", 7, None, None, False, said.append
     )
