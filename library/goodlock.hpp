@@ -62,7 +62,7 @@ struct line {
 // A report.
 struct result {
     uint32_t code = GOODLOCK_MISUSE; // GOODLOCK_OK: the rest is right. GOODLOCK_MISUSE: there is no session
-    bool is_settled = false;         // no event of a recorded thread is missing; else it is the report so far
+    bool is_settled = false;         // no event of a recorded thread is missing but what `unrecorded` counts; else it is the report so far
     std::string text;                // as `goodlock predict` prints it
     std::size_t cycles = 0;          // how many it lists
     bool more = false;               // whether there are more than were asked for

@@ -198,12 +198,14 @@ class ThreadState:
         return held, self.words, place, kind == AGAIN
 
     def take_back(self, token):
-        """The acquire failed."""
+        """The acquire failed. What a handler did meanwhile isn't known after all: it did it without that lock."""
         held, words, place, _ = token
         if place is not None:
             words[place] = 0
-            if words is self.words and self.place == place + 1:
-                self.place = place
+        if words is self.words and place is not None and self.place == place + 1:
+            self.place = place
+        else:
+            self.seen = set()
         if held is not None and held.depth > 1:
             held.depth -= 1
         elif held is not None and held in self.held:

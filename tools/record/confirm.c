@@ -11,6 +11,7 @@
 #include <errno.h>
 #include <fcntl.h>
 #include <sched.h>
+#include <signal.h>
 #include <stdio.h>
 #include <stdlib.h>
 #include <string.h>
@@ -120,24 +121,30 @@ struct waiter {
 static struct waiter waiters[WAITERS];
 static int waiters_lock;
 
-static void waiters_enter(void)
+/* Shuts signal handlers out, too: one that locks at an edge would wait here for the thread that it interrupts. Gives
+ * the signals that were shut out before. */
+static uint64_t waiters_enter(void)
 {
+    uint64_t every = ~0ull, before = 0;
+    syscall(SYS_rt_sigprocmask, SIG_BLOCK, &every, &before, sizeof before);
     while (__atomic_exchange_n(&waiters_lock, 1, __ATOMIC_ACQUIRE))
         sched_yield();
+    return before;
 }
 
-static void waiters_leave(void)
+static void waiters_leave(uint64_t signals)
 {
     __atomic_store_n(&waiters_lock, 0, __ATOMIC_RELEASE);
+    syscall(SYS_rt_sigprocmask, SIG_SETMASK, &signals, NULL, sizeof signals);
 }
 
 static void waiter_drop(struct thread *thread)
 {
-    waiters_enter();
+    uint64_t signals = waiters_enter();
     for (size_t i = 0; i < WAITERS; i++)
         if (waiters[i].thread == thread)
             waiters[i].thread = NULL;
-    waiters_leave();
+    waiters_leave(signals);
 }
 
 /* Enters the thread, if it stands at an edge. */
@@ -196,11 +203,11 @@ static uint64_t milliseconds(void)
 /* A thread that waits for a condition isn't stopped, but stands at its edge until it has its lock again. */
 static void hold_back(struct thread *thread, uint64_t word, int condition)
 {
-    waiters_enter();
+    uint64_t signals = waiters_enter();
     struct waiter *own = thread->holds < HOLDS_IN_VAIN ? waiter_new(thread, word) : NULL;
     if (own)
         cycle_look(own);
-    waiters_leave();
+    waiters_leave(signals);
     if (!own || condition)
         return;
     uint64_t end = milliseconds() + plan_milliseconds;

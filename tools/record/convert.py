@@ -13,7 +13,7 @@ from array import array
 from collections import Counter
 
 from build import built
-from symbols import Module, demangled, is_wrapper_source, short_function, short_paths
+from symbols import Module, demangled, is_wrapper_source, short_function, short_paths, short_variable
 
 LAYOUT_VERSION = 1
 CHUNK_UNIT = 4096
@@ -696,7 +696,7 @@ def static_name(place, symbol, readable):
     module, offset = place
     if symbol is None:
         return "%s+0x%x" % (module.name, offset)
-    name = re.sub(r"\(.*?\)(?=::)", "", readable.get(symbol.name, symbol.name))
+    name = short_variable(readable.get(symbol.name, symbol.name))
     return name if offset == symbol.start else "%s+0x%x" % (name, offset - symbol.start)
 
 

@@ -41,7 +41,7 @@ from convert import (
 from family import FORWARDED, adopt_orphans
 from recording import maps_file
 
-WAY_JSON, WAY_SETTLED, WAY_SHORT = 1, 2, 4
+WAY_JSON, WAY_SETTLED, WAY_SHORT, WAY_COUNT = 1, 2, 4, 8
 MODES = {"basic": 0, "guarded": 1, "full": 2}  # as goodlock.h has them
 BATCH = 16  # windows that are reported at once
 # What the library answers, and what goodlock_live adds.
@@ -209,7 +209,8 @@ def report_of(recording, process, question, is_settled, is_json, is_short):
 def merged(reports, question, is_json):
     """The cycles of all these reports, each once, as one report."""
     edges, cycles, more = {}, {}, False
-    whole = {"cycles": [], "edges": [], "format": 2, "more": False, "trim": []}
+    # No `trim`: of cycles whose threads are in no window together nothing is known.
+    whole = {"cycles": [], "edges": [], "format": 2, "more": False, "trim": None}
     whole.update(len=question.length, max=question.most, mode=question.mode)
     for report in reports:
         if report.code not in (OK, WITHOUT_EVENTS):
@@ -218,8 +219,6 @@ def merged(reports, question, is_json):
             continue
         part = json.loads(report.data)
         more = more or part["more"]
-        if part["trim"] is None:
-            whole["trim"] = None
         for cycle in part["cycles"]:
             places = tuple(
                 edges.setdefault(identity(part["edges"][at]), (len(edges), part["edges"][at]))[0] for at in cycle
@@ -259,7 +258,7 @@ def plain(name):
 
 
 def round_text(process, found):
-    """Who waits for whom."""
+    """Who waits for whom, circle after circle."""
     parts = []
     for thread, word, holder, has_ended, *_ in found:
         name = process.names.thread_name(thread)
@@ -287,7 +286,7 @@ class Followed:
         self.hash = None  # of its events at the last look
         self.reported = None  # of those that the last report is of
         self.told = None  # those that the last line is of
-        self.cycles = 0
+        self.listed = 0, False  # cycles of the last report, and whether there are more
         self.round = []
         self.since = None  # the threads of this round wait, and had no event
         self.hangs = None
@@ -344,9 +343,12 @@ class Follower:
             finally:
                 self.recording.remove_work()
         except (BuildError, ConvertError, OSError) as error:
-            if str(error) not in self.faults:
-                self.faults.add(str(error))
-                self.say("no report so far: %s" % error)
+            self.say_once("no report so far: %s" % error)
+
+    def say_once(self, fault):
+        if fault not in self.faults:
+            self.faults.add(fault)
+            self.say(fault)
 
     def look(self, wants_lines):
         copied = copy_events(self.recording)
@@ -362,7 +364,7 @@ class Follower:
         paths = process_paths(processes, self.path, self.first)
         for key in due:
             if due[key] and key in processes:
-                self.report(processes[key], copied[key], paths[key], due[key])
+                self.tell(processes[key], copied[key], paths[key], due[key])
         self.made = time.monotonic()
 
     def what_is_due(self, key, copy, followed, wants_lines):
@@ -374,36 +376,67 @@ class Follower:
         is_quiet = copy.hash == followed.hash or time.monotonic() > self.made + UNQUIET
         return "quiet" if copy.hash != followed.reported and is_quiet else None
 
+    def tell(self, process, copy, path, why):
+        """What is due of a process. A report that can't be made keeps nothing else from being told."""
+        followed = self.followed[process.key]
+        try:
+            self.report(process, copy, path, why)
+        except (BuildError, ConvertError, OSError) as error:
+            self.say_once("no report so far: %s" % error)
+        if why == "hangs":
+            followed.hangs = copy.round
+            self.say("%s hangs: %s" % (described(process), round_text(process, copy.round)))
+
+    def counted(self, process):
+        """A report that nobody may ask to see: the JSON of all its edges takes far longer, and far more memory, than to count the cycles.
+        None of windows, whose cycles are told apart by their edges.
+        """
+        if windows(process):
+            return None
+        return next(answered_reports(process, [None], self.question, WAY_COUNT, self.recording.work_file("report")))
+
     def report(self, process, copy, path, why):
         """Makes a report so far: it is written if somebody asked, and if it has more cycles than those before."""
         followed = self.followed[process.key]
-        report = report_of(self.recording, process, self.question, False, True, True)
+        report = self.counted(process) if why == "quiet" else None
+        if report is None or (report.code == OK and (report.cycles, report.more) > followed.listed):
+            report = report_of(self.recording, process, self.question, False, True, True)
         followed.reported = copy.hash
         if report.code == WITHOUT_EVENTS:
             return
         if report.code != OK:
             raise ConvertError("%s: %s" % (path, report.fault()))
-        has_more = report.cycles > followed.cycles
+        has_more = (report.cycles, report.more) > followed.listed
         if why != "quiet" or has_more:
-            self.write_line(path + ".lines", report.data)
-            followed.told = copy.hash
+            if self.try_to_write(path + ".lines", report.data):
+                followed.told = copy.hash
         if has_more:
             self.say("%s.lines: %s so far; %s" % (path, report.count(), described(process)))
-        followed.cycles = report.cycles
-        if why == "hangs":
-            followed.hangs = copy.round
-            self.say("%s hangs: %s" % (described(process), round_text(process, copy.round)))
+        followed.listed = report.cycles, report.more
+
+    def try_to_write(self, path, data):
+        """Adds a line; whether it could be. What standard error tells doesn't hang on it."""
+        try:
+            self.write_line(path, data)
+            return True
+        except OSError as error:
+            self.say_once("no line: %s: %s" % (path, error.strerror))
+            return False
 
     def write_line(self, path, data):
-        """Adds a line to a file that this recording made."""
+        """Adds a line to a file that this recording made, or to a new one where somebody moved that away. No half of a line stays."""
         flags = os.O_WRONLY | os.O_APPEND | os.O_CLOEXEC | os.O_NOFOLLOW
-        if path not in self.files:
+        if path not in self.files or not os.path.lexists(path):
             flags |= os.O_CREAT | os.O_EXCL
         file = os.open(path, flags, 0o666)
         self.files.add(path)
+        size = os.fstat(file).st_size
         try:
             while data:
                 data = data[os.write(file, data) :]
+        except OSError:
+            os.ftruncate(file, size)
+            raise
         finally:
             os.close(file)
 

@@ -166,6 +166,10 @@ static void key_take_away(struct thread *thread, uint64_t key)
             thread->keys[place] = KEY_GONE;
 }
 
+static void keys_forget(struct thread *thread);
+
+/* A signal handler that came while the call waited has stored words behind that of its acquire, which now aren't words
+ * of a thread that holds the lock: so all keys go. */
 void acquire_take_back(struct thread *thread, uint64_t *place)
 {
     uint32_t outside = change_begin(thread);
@@ -173,14 +177,16 @@ void acquire_take_back(struct thread *thread, uint64_t *place)
     struct held *held = held_find(thread, word_object(*place));
     if (kind == EVENT_UPGRADE || kind == EVENT_BEYOND || kind == EVENT_AGAIN)
         held = NULL;
-    if (held && held->depth > 1) {
-        held->depth--;
-    } else if (held) {
+    int removes = held && held->depth == 1;
+    if (removes) {
         if (thread->levels[held - thread->held].news != thread->news)
             key_take_away(thread, held->context);
         held_remove(thread, held);
+    } else if (held) {
+        held->depth--;
     }
-    word_take_back(thread, place);
+    if (!word_take_back(thread, place) && removes && !is_amid_change(thread))
+        keys_forget(thread);
     change_end(thread, outside);
     count_other(thread);
 }
@@ -197,46 +203,42 @@ static uint64_t held_state(const struct thread *thread)
     return state;
 }
 
-/* A signal handler finds no place, or state and place of one moment. */
 static void moment_set(struct thread *thread, struct moment *moment, uint64_t state)
 {
-    struct chunk *chunk = thread->chunk;
-    moment->place = NULL;
-    __atomic_signal_fence(__ATOMIC_SEQ_CST);
+    struct stored stored = stored_now(thread);
     moment->state = state;
-    __atomic_signal_fence(__ATOMIC_SEQ_CST);
-    moment->place = chunk->used < thread->room ? &chunk->words[chunk->used] : NULL;
+    moment->place = stored.used < chunk_room(stored.chunk) ? &stored.chunk->words[stored.used] : NULL;
 }
 
+/* What is news when the place is asked for lies in front of it: a signal handler's news in between ends this past. */
 static void past_begin(struct thread *thread, struct level *level, struct past *past, uint64_t state)
 {
-    level->has_past = 0;
-    __atomic_signal_fence(__ATOMIC_SEQ_CST);
     past->news = thread->news;
+    __atomic_signal_fence(__ATOMIC_SEQ_CST);
     past->later.place = NULL;
     past->releases = 0;
     past->distance = 1;
     moment_set(thread, &past->first, state);
-    __atomic_signal_fence(__ATOMIC_SEQ_CST);
     level->has_past = 1;
 }
 
-/* After a release: leaves out all since a moment at which the thread held what it holds now. */
+/* After a release, amid no other change: leaves out all since a moment at which the thread held what it holds now. */
 static void past_look(struct thread *thread)
 {
+    struct stored stored = stored_now(thread);
     struct level *level = &thread->levels[thread->held_count - 1];
     struct past *past = &thread->pasts[thread->held_count - 1];
     uint64_t state = held_state(thread);
-    if (!level->has_past || past->news != thread->news || !word_is_in_chunk(thread, past->first.place)) {
+    if (!level->has_past || past->news != thread->news || !is_stored(stored, past->first.place)) {
         past_begin(thread, level, past, state);
     } else if (past->first.state == state) {
         past->later.place = NULL;
         past->releases = 0;
         past->distance = 1;
-        words_leave_out(thread, past->first.place);
-    } else if (past->later.state == state && word_is_in_chunk(thread, past->later.place)) {
+        words_leave_out(thread, stored, past->first.place);
+    } else if (past->later.state == state && is_stored(stored, past->later.place)) {
         past->releases = 0;
-        words_leave_out(thread, past->later.place);
+        words_leave_out(thread, stored, past->later.place);
     } else if (++past->releases >= past->distance) {
         past->releases = 0;
         past->distance *= 2;
@@ -268,7 +270,7 @@ void release_write_further(struct thread *thread, uint64_t call)
         held_remove(thread, held);
     else
         keep_above(thread, held);
-    if (thread->held_count > 0 && thread->inside == 1)
+    if (thread->held_count > 0 && !is_amid_change(thread))
         past_look(thread);
 }
 
@@ -299,6 +301,20 @@ static void keys_drop(struct thread *thread, uint64_t *keys, uint32_t mask)
         pages_drop(keys, sizeof *keys * (mask + 1));
 }
 
+static void keys_forget(struct thread *thread)
+{
+    uint64_t *keys = thread->keys;
+    uint32_t mask = thread->key_mask;
+    thread->changing = 1;
+    __atomic_signal_fence(__ATOMIC_SEQ_CST);
+    keys_set(thread, thread->first_keys, KEYS_FIRST - 1);
+    memset(thread->first_keys, 0, sizeof thread->first_keys);
+    thread->key_count = 0;
+    keys_drop(thread, keys, mask);
+    __atomic_signal_fence(__ATOMIC_SEQ_CST);
+    thread->changing = 0;
+}
+
 static void keys_grow(struct thread *thread)
 {
     uint64_t *old = thread->keys;
@@ -321,6 +337,8 @@ int key_is_news_further(struct thread *thread, uint64_t key)
     for (uint32_t place = key >> 8 & thread->key_mask; thread->keys[place]; place = (place + 1) & thread->key_mask)
         if (thread->keys[place] == key)
             return 0;
+    if (is_amid_change(thread))
+        return 1;
     thread->changing = 1;
     __atomic_signal_fence(__ATOMIC_SEQ_CST);
     if (2 * thread->key_count > thread->key_mask)

@@ -450,6 +450,7 @@ void user_directory(uid_t user)
 
 /* What the child needs of its parent, kept where a fork doesn't wipe it. */
 static struct process parent_process;
+static struct thread *parent_thread;
 static struct held parent_held[HELD_LIMIT];
 static uint32_t parent_held_count;
 static struct slow_state fork_state;
@@ -461,6 +462,7 @@ static void fork_prepare(void)
     if (process.record)
         process.record->forks++;
     parent_process = process;
+    parent_thread = thread;
     parent_held_count = thread ? thread->held_count : 0;
     if (thread)
         memcpy(parent_held, thread->held, sizeof parent_held);
@@ -472,13 +474,17 @@ static void fork_in_parent(void)
     slow_leave(&state);
 }
 
-/* The child has one thread. It holds what the forking thread held, and never asked for it. */
+/* The child has one thread. It holds what the forking thread held, and never asked for it. Its state has the place of
+ * that of the forking thread: where a signal handler forked, the call that it came in goes on with that. */
 static void fork_in_child(void)
 {
     struct slow_state state = fork_state;
     if (parent_process.state == PROCESS_RECORDED) {
         memset(&process, 0, sizeof process); /* done by the kernel, if it is not an old one */
         process_start(&parent_process);
+        if (parent_thread)
+            parent_thread->next_free = NULL;
+        process.free_threads = parent_thread;
     }
     thread_forget();
     state.thread = &thread_none;

@@ -179,8 +179,7 @@ struct known_call {
 
 struct thread {
     struct chunk *chunk; /* NULL: not ready */
-    uint64_t room;       /* words that the chunk holds */
-    uint64_t news;       /* counts what was not known in this segment, forks and joins */
+    uint64_t news;       /* counts what was not known in this segment, forks, joins and chunks */
     uint64_t segments;   /* counts forks, joins, and forks that failed */
     uint64_t *keys;      /* the known acquires of this segment, see key_of */
     uint32_t key_mask, key_count;
@@ -232,13 +231,16 @@ static inline uint64_t used_take(uint64_t *used)
 #endif
 }
 
-static inline void used_set_back(uint64_t *used, uint64_t from, uint64_t to)
+/* Whether it was `from`, and is `to` now. */
+static inline int used_set_back(uint64_t *used, uint64_t from, uint64_t to)
 {
+    uint64_t found = from;
 #ifdef __x86_64__
-    __asm__ volatile("cmpxchgq %2, %1" : "+a"(from), "+m"(*used) : "r"(to) : "memory", "cc");
+    __asm__ volatile("cmpxchgq %2, %1" : "+a"(found), "+m"(*used) : "r"(to) : "memory", "cc");
 #else
-    __atomic_compare_exchange_n(used, &from, to, 0, __ATOMIC_RELAXED, __ATOMIC_RELAXED);
+    __atomic_compare_exchange_n(used, &found, to, 0, __ATOMIC_RELAXED, __ATOMIC_RELAXED);
 #endif
+    return found == from;
 }
 
 static inline uint64_t event_word(enum event_kind kind, uint32_t site, uint32_t object)
@@ -246,49 +248,74 @@ static inline uint64_t event_word(enum event_kind kind, uint32_t site, uint32_t 
     return (uint64_t)kind | (uint64_t)site << SITE_SHIFT | (uint64_t)object << OBJECT_SHIFT;
 }
 
-/* Stores a word where the chunk is full. */
-uint64_t *word_store_slow(struct thread *thread, uint64_t word);
+/* How many words a chunk holds. The chunk itself tells it: a signal handler that fills the thread's chunk puts another,
+ * larger one in its place, while the call that it interrupted still has the full one in hand. */
+static inline uint64_t chunk_room(const struct chunk *chunk)
+{
+    return (chunk->bytes - sizeof *chunk) / 8;
+}
+
+/* Stores a word where this chunk is full. */
+uint64_t *word_store_slow(struct thread *thread, struct chunk *full, uint64_t word);
 
 static inline uint64_t *word_store(struct thread *thread, uint64_t word)
 {
     struct chunk *chunk = thread->chunk;
     uint64_t place = used_take(&chunk->used);
-    if (unlikely(place >= thread->room))
-        return word_store_slow(thread, word);
+    if (unlikely(place >= chunk_room(chunk)))
+        return word_store_slow(thread, chunk, word);
     chunk->words[place] = word;
     return &chunk->words[place];
 }
 
-/* Takes a stored word back: its call failed. Words that a signal handler stored behind it stay. */
-static inline void word_take_back(struct thread *thread, uint64_t *place)
+/* Takes a stored word back: its call failed. Words that a signal handler stored behind it stay. Whether there are none.
+ */
+static inline int word_take_back(struct thread *thread, uint64_t *place)
 {
     struct chunk *chunk = thread->chunk;
     *place = 0;
-    if (place >= chunk->words && place < chunk->words + thread->room) {
-        uint64_t index = (uint64_t)(place - chunk->words);
-        used_set_back(&chunk->used, index + 1, index);
-    }
+    if (place < chunk->words || place >= chunk->words + chunk_room(chunk))
+        return 0;
+    uint64_t index = (uint64_t)(place - chunk->words);
+    return used_set_back(&chunk->used, index + 1, index);
 }
 
-static inline int word_is_in_chunk(struct thread *thread, const uint64_t *place)
+/* The words that a thread's chunk has at a moment. */
+struct stored {
+    struct chunk *chunk;
+    uint64_t used;
+};
+
+/* Is asked before it is looked at what may be left out: so what a signal handler stores after the look lies behind
+ * these words, and stays, and what it stored before the look is in what is looked at, as news. */
+static inline struct stored stored_now(const struct thread *thread)
 {
-    return place >= thread->chunk->words && place < thread->chunk->words + thread->chunk->used;
+    struct stored stored = {__atomic_load_n(&thread->chunk, __ATOMIC_RELAXED), 0};
+    stored.used = __atomic_load_n(&stored.chunk->used, __ATOMIC_RELAXED);
+    __atomic_signal_fence(__ATOMIC_SEQ_CST);
+    return stored;
 }
 
-/* Takes the words from here on away. Zero first: should the process be killed in between, zeros stand for no
+static inline int is_stored(struct stored stored, const uint64_t *place)
+{
+    return place >= stored.chunk->words && place < stored.chunk->words + stored.used;
+}
+
+/* Zeroes the words from behind the first one on, the last one first. The chunk may have been found full. */
+void words_zero_further(struct stored stored, uint64_t first);
+
+/* Takes these words away, from `start` on. Zero first: should the process be killed in between, zeros stand for no
  * events. The last word first, and then the count of what was left out: so a reader of the running process finds a list
- * that was there once, or another count (convert/live.c). */
-static inline void words_leave_out(struct thread *thread, uint64_t *start)
+ * that was there once, or another count (convert/live.c). Where a signal handler has stored words behind them, zeros
+ * stay in between. */
+static inline void words_leave_out(struct thread *thread, struct stored stored, uint64_t *start)
 {
-    struct chunk *chunk = thread->chunk;
-    uint64_t used = chunk->used;
-    uint64_t first = (uint64_t)(start - chunk->words);
-    uint64_t place = used;
-    do
-        *(volatile uint64_t *)&chunk->words[--place] = 0;
-    while (unlikely(place > first));
-    used_set_back(&chunk->used, used, first);
-    thread->record->left_out += used - first;
+    uint64_t first = (uint64_t)(start - stored.chunk->words);
+    if (unlikely(stored.used - first > 1))
+        words_zero_further(stored, first);
+    *(volatile uint64_t *)start = 0;
+    used_set_back(&stored.chunk->used, stored.used, first);
+    thread->record->left_out += stored.used - first;
 }
 
 static inline unsigned word_kind(uint64_t word)
@@ -323,6 +350,12 @@ static inline uint32_t word_object(uint64_t word)
  * left out with its level. A thread that comes back to the first moment leaves no more than one way around; one
  * that doesn't, as it walks in another ring now, comes back to the moving one as soon as that moves no sooner than
  * after a whole round. Nothing of this is looked at where the last lock is released, as most are.
+ *
+ * A signal handler may come while a word is stored, and what is held changed, of the call that it interrupts: between
+ * these the two don't fit. There it looks for no moments, but what it does itself from its first acquire to its last
+ * release is left out if all of that is known: then it counts as done before the change, or after it. What isn't known
+ * stays, and no key of it is put down: the words in front of it may say that other locks are held than the key does,
+ * and the first acquire of a key has to be in the list with just these.
  */
 static inline uint64_t key_of(uint64_t context, uint64_t word)
 {
@@ -335,11 +368,34 @@ static inline uint64_t key_of(uint64_t context, uint64_t word)
 /* A key that was taken away. */
 #define KEY_GONE 1
 
-/* What the thread has stored so far won't be left out any more. */
+/* Between these two the words and what is held don't fit, see above. */
+static inline uint32_t change_begin(struct thread *thread)
+{
+    uint32_t outside = thread->inside;
+    thread->inside = outside + 1;
+    __atomic_signal_fence(__ATOMIC_SEQ_CST);
+    return outside;
+}
+
+static inline void change_end(struct thread *thread, uint32_t outside)
+{
+    __atomic_signal_fence(__ATOMIC_SEQ_CST);
+    thread->inside = outside;
+}
+
+/* Within a change: whether it is that of a signal handler that came amid another one. */
+static inline int is_amid_change(const struct thread *thread)
+{
+    return thread->inside > 1;
+}
+
+/* Within a change: what the thread has stored so far won't be left out any more. Amid another change this isn't told
+ * yet, as that one may be leaving words out. */
 static inline void words_keep(struct thread *thread)
 {
     struct chunk *chunk = thread->chunk;
-    __atomic_store_n(&chunk->kept, chunk->used, __ATOMIC_RELEASE);
+    if (!is_amid_change(thread))
+        __atomic_store_n(&chunk->kept, chunk->used, __ATOMIC_RELEASE);
 }
 
 /* News: the locks that are held now were acquired before it, and so all these words stay. */
@@ -368,7 +424,8 @@ struct segment {
     uint64_t first_keys[KEYS_FIRST];
 };
 
-/* A fork or join: what comes after is another segment. The one before is dropped then, or, in a slow part, goes on. */
+/* Within a change: a fork or join. What comes after is another segment. The one before is dropped then, or, in a slow
+ * part, goes on. */
 void segment_end(struct thread *thread, struct segment *before);
 void segment_drop(struct thread *thread, const struct segment *before);
 void segment_go_on(struct thread *thread, const struct segment *before);
@@ -501,19 +558,21 @@ static inline int is_shared(uint64_t word)
 /* Acquires of a lock that is held already, or where too many are held. */
 uint64_t *acquire_write_further(struct thread *thread, uint64_t word, struct held *held, int plain);
 
-/* Adds a held lock. A signal handler that comes before the count is raised puts a lock of its own there. */
+/* Adds a held lock. A signal handler that comes before the count is raised puts a lock of its own there: another one,
+ * or the same one, which it may leave there with no depth. */
 static inline void held_add(struct thread *thread, uint32_t count, uint64_t word, uint64_t context)
 {
     struct held *held = &thread->held[count];
     do {
         held->word = word;
+        __atomic_signal_fence(__ATOMIC_SEQ_CST);
         held->identity = word;
         held->context = context;
         held->depth = 1;
         __atomic_signal_fence(__ATOMIC_SEQ_CST);
         thread->held_count = count + 1;
         __atomic_signal_fence(__ATOMIC_SEQ_CST);
-    } while (unlikely(held->word != word));
+    } while (unlikely(held->word != word || held->depth != 1));
 }
 
 /* Writes an acquire; gives its place. `call` has site and lock, `kind` is one of the four acquires; `plain`: a thread
@@ -539,21 +598,6 @@ static inline __attribute__((always_inline)) uint64_t *acquire_add(struct thread
     return thread->levels[count].place = word_store(thread, word);
 }
 
-/* Between these two the words and what is held don't fit: a signal handler there looks for no moment to go back to. */
-static inline uint32_t change_begin(struct thread *thread)
-{
-    uint32_t outside = thread->inside;
-    thread->inside = outside + 1;
-    __atomic_signal_fence(__ATOMIC_SEQ_CST);
-    return outside;
-}
-
-static inline void change_end(struct thread *thread, uint32_t outside)
-{
-    __atomic_signal_fence(__ATOMIC_SEQ_CST);
-    thread->inside = outside;
-}
-
 static inline __attribute__((always_inline)) uint64_t *acquire_write(struct thread *thread, enum event_kind kind,
                                                                      uint64_t call, int plain)
 {
@@ -574,11 +618,13 @@ void release_write_further(struct thread *thread, uint64_t call);
 static inline __attribute__((always_inline)) void release_write(struct thread *thread, uint64_t call)
 {
     uint32_t outside = change_begin(thread);
+    struct stored stored = stored_now(thread);
     uint32_t last = thread->held_count - 1;
+    uint64_t *start;
     if (likely(thread->held_count > 0 && word_object(thread->held[last].word) == word_object(call) &&
                thread->held[last].depth == 1 && thread->levels[last].news == thread->news &&
-               word_is_in_chunk(thread, thread->levels[last].place))) {
-        words_leave_out(thread, thread->levels[last].place);
+               is_stored(stored, start = __atomic_load_n(&thread->levels[last].place, __ATOMIC_RELAXED)))) {
+        words_leave_out(thread, stored, start);
         thread->record->left_out++;
         thread->held_count = last;
     } else {

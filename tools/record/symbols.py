@@ -15,6 +15,8 @@ NT_GNU_BUILD_ID = 3
 WRAPPER_SOURCE = re.compile(r"/c\+\+/(v1|\d+(\.\d+)*)/|libstdc\+\+-v3/|/gthr-[a-z]+\.h$")
 # Names of Python's that say nothing without a directory.
 PACKAGE_FILES = ("__init__.py", "__main__.py")
+# What stands in a readable name as one mark: an operator with such marks, the name of what has none, or any other mark.
+PARTS = re.compile(r"\boperator(?:\(\)|<=>|->\*?|<<=?|>>=?|[<>]=?)|\(anonymous namespace\)|.")
 OPERATOR = re.compile(r"\boperator((?:<<|>>|->|<|>)[=*]?)")
 OPERATOR_MARKS = {"<": "less", ">": "greater", "-": "minus", "=": "equal", "*": "star"}
 CLONE = re.compile(r" ?\[(?:clone|abi:)[^\]]*\]")
@@ -103,6 +105,18 @@ def short_function(name):
         depth -= mark in ")>" and depth > 0
     words = re.split(r"(?<!operator) ", re.sub(r" const$", "", "".join(kept).strip()))
     return words[-1].replace("operator call", "operator()")
+
+
+def short_variable(name):
+    """A variable's readable name without the parameters of the functions that it stands in. Arguments of templates stay."""
+    kept, parentheses, angles = [], 0, 0
+    for part in PARTS.findall(name):
+        parentheses += part == "(" and angles == 0
+        if parentheses == 0:
+            kept.append("{anonymous}" if part == "(anonymous namespace)" else part)
+            angles += (part == "<") - (part == ">")
+        parentheses -= part == ")" and angles == 0
+    return name if parentheses or angles else re.sub(r" (?:const|volatile)(?=::)", "", "".join(kept))
 
 
 class Module:

@@ -55,7 +55,7 @@ static int thread_chunk(struct thread *thread)
         return 0;
     }
     thread->record->chunks++;
-    thread->room = (chunk->bytes - sizeof *chunk) / 8;
+    thread->news++; /* what was stored before isn't left out any more */
     thread->chunk = chunk;
     return 1;
 }
@@ -187,19 +187,27 @@ __attribute__((constructor(102))) static void exit_key_start(void)
 
 /* --- Words where the chunk is full ------------------------------------------------------------------------ */
 
-uint64_t *word_store_slow(struct thread *thread, uint64_t word)
+void words_zero_further(struct stored stored, uint64_t first)
 {
-    int room = 0;
-    thread->chunk->used = thread->room; /* and no more, also where no word is stored */
-    if (!process.full) {
+    uint64_t room = chunk_room(stored.chunk);
+    for (uint64_t place = stored.used < room ? stored.used : room; --place > first;)
+        *(volatile uint64_t *)&stored.chunk->words[place] = 0;
+}
+
+/* A full chunk counts more words than it holds, for ever, once another one follows it: so nobody who still has it in
+ * hand finds room in it, or sets the count back. */
+uint64_t *word_store_slow(struct thread *thread, struct chunk *full, uint64_t word)
+{
+    if (thread->chunk == full && !process.full) {
         struct slow_state state;
         slow_enter(&state);
-        room = thread_chunk(thread);
-        process.full = !room;
+        if (thread->chunk == full) /* else a signal handler came first */
+            process.full = !thread_chunk(thread);
         slow_leave(&state);
     }
-    if (room)
+    if (thread->chunk != full)
         return word_store(thread, word);
+    full->used = chunk_room(full); /* and no more, as no word is stored */
     thread->record->lost++;
     thread->sink = word;
     return &thread->sink;
@@ -327,15 +335,20 @@ static int thread_begin_c11(void *value)
 /* Before the thread is made, so that no event of it is there without its fork. */
 static uint64_t *fork_write(struct thread *thread, struct beginning *beginning, uint32_t site, struct segment *before)
 {
+    uint32_t outside = change_begin(thread);
     segment_end(thread, before);
-    return word_store(thread, event_word(EVENT_FORK, site, (uint32_t)beginning->record->thread));
+    uint64_t *place = word_store(thread, event_word(EVENT_FORK, site, (uint32_t)beginning->record->thread));
+    change_end(thread, outside);
+    return place;
 }
 
 /* The thread was made: the fork stays. */
 static void fork_done(struct thread *thread, struct beginning *beginning, pthread_t handle,
                       const struct segment *before)
 {
+    uint32_t outside = change_begin(thread);
     words_keep(thread);
+    change_end(thread, outside);
     segment_drop(thread, before);
     beginning_map(beginning, handle);
 }
@@ -394,10 +407,12 @@ static void join_write(struct thread *thread, uint64_t number, uint32_t site, in
         return;
     }
     struct segment before;
+    uint32_t outside = change_begin(thread);
     segment_end(thread, &before);
     segment_drop(thread, &before);
     word_store(thread, event_word(EVENT_JOIN, site, (uint32_t)(number - 1)));
     words_keep(thread);
+    change_end(thread, outside);
 }
 
 /* Also where the thread is cancelled in the join. */

@@ -10,9 +10,9 @@
  *
  * It answers, for each process: the number of chunks of tables, each: order, extent, offset of the chunk; the number of
  * chunks of events, each: thread, offset in the copy, number of words; a hash of the events that stay, which changes
- * with each that is news; the number of threads that wait for each other, each: thread, the word of the acquire or join
- * that waits, the thread that has the lock or is joined, whether that one has ended (2: it is a thread of the parent,
- * that held the lock at the fork), and two numbers that tell how far the thread is.
+ * with each that is news; the number of threads that wait for each other, circle after circle, each: thread, the word
+ * of the acquire or join that waits, the thread that has the lock or is joined, whether that one has ended (2: it is a
+ * thread of the parent, that held the lock at the fork), and two numbers that tell how far the thread is.
  * That of `report`:
  *
  *     number of files;   a text each: the path
@@ -37,6 +37,7 @@
 #define WAY_JSON 1u    /* as JSON, else as text */
 #define WAY_SETTLED 2u /* of a process that has ended */
 #define WAY_SHORT 4u   /* of the JSON's edges only those of cycles */
+#define WAY_COUNT 8u   /* none of these: how many cycles there are is all that is asked for */
 #define WITHOUT_EVENTS 1000u
 
 #define RING 256u
@@ -311,7 +312,8 @@ struct hold {
 struct wait {
     uint64_t word;
     uint32_t thread, on;
-    int stays;
+    int stays, begins; /* begins: the first one of a round */
+    uint64_t walk;     /* which one came here first; 0: none */
     struct progress progress;
 };
 
@@ -355,7 +357,8 @@ static void waits_add(struct waits *waits, const struct holding *holding, uint32
         waits->wait_room = 2 * waits->wait_room + 64;
         waits->waits = memory(waits->waits, waits->wait_room * sizeof *waits->waits);
     }
-    waits->waits[waits->wait_count++] = (struct wait){last, thread, 0, 1, *progress};
+    waits->waits[waits->wait_count++] =
+        (struct wait){.word = last, .thread = thread, .stays = 1, .progress = *progress};
 }
 
 static struct wait *wait_of(struct waits *waits, uint32_t thread)
@@ -418,57 +421,75 @@ static void waits_settle(struct waits *waits)
     }
 }
 
-/* Where the waits lead to from this one: to one of a round, or to one for a thread that has ended. */
-static struct wait *wait_end(struct waits *waits, struct wait *wait)
+/* Goes where the waits lead to from this one, by ways that no other walk went: to one of a round, or NULL. */
+static struct wait *round_found(struct waits *waits, struct wait *wait, uint64_t walk)
 {
-    for (size_t i = 0; i < waits->wait_count && !never_releases(waits, wait->on); i++)
+    while (wait->walk == 0 && !never_releases(waits, wait->on)) {
+        wait->walk = walk;
         wait = wait_of(waits, wait->on);
-    return wait;
+    }
+    return wait->walk == walk ? wait : NULL;
 }
 
 /* The first thread, by birth, of a round. */
 static struct wait *round_first(struct waits *waits, struct wait *wait)
 {
     struct wait *first = wait;
-    for (size_t i = 0; i < waits->wait_count; i++) {
-        wait = wait_of(waits, wait->on);
-        if (wait->thread < first->thread)
-            first = wait;
-    }
+    for (struct wait *other = wait_of(waits, wait->on); other != wait; other = wait_of(waits, other->on))
+        if (other->thread < first->thread)
+            first = other;
     return first;
 }
 
-/* The first thread of a round that wait for each other; else the first one that waits for a thread that has ended; NULL
- * if there is none. However many others wait for these, it is the same. */
-static struct wait *round_start(struct waits *waits)
+/* Marks the first threads of all rounds that wait for each other; else of those that wait for a thread that has ended
+ * the first one, which is a round of itself. However many others wait for these, they are the same. */
+static void rounds_find(struct waits *waits)
 {
-    struct wait *first = NULL;
+    struct wait *ended = NULL;
+    int found = 0;
     for (size_t i = 0; i < waits->wait_count; i++) {
-        if (!waits->waits[i].stays)
-            continue;
-        struct wait *end = wait_end(waits, &waits->waits[i]);
-        if (!never_releases(waits, end->on))
-            return round_first(waits, end);
-        if (!first || end->thread < first->thread)
-            first = end;
+        struct wait *wait = &waits->waits[i];
+        struct wait *of_round = wait->stays ? round_found(waits, wait, i + 1) : NULL;
+        if (of_round) {
+            round_first(waits, of_round)->begins = 1;
+            found = 1;
+        }
+        if (wait->stays && never_releases(waits, wait->on) && (!ended || wait->thread < ended->thread))
+            ended = wait;
     }
-    return first;
+    if (!found && ended)
+        ended->begins = 1;
 }
 
-/* Writes one round. One that waits for a thread that has ended is a round of itself. */
+/* The one after this in its round that begins with the first; NULL at the end. */
+static struct wait *round_next(struct waits *waits, const struct wait *first, const struct wait *wait)
+{
+    struct wait *next = never_releases(waits, wait->on) ? NULL : wait_of(waits, wait->on);
+    return next == first ? NULL : next;
+}
+
+static void wait_put(const struct waits *waits, const struct wait *wait)
+{
+    uint64_t has_ended = wait->on == NOBODY ? 2 : (uint64_t)locks_have(&waits->ended, wait->on);
+    uint64_t answer[] = {wait->thread, wait->word, wait->on, has_ended, wait->progress.stored, wait->progress.gone};
+    output_put((const char *)answer, sizeof answer);
+}
+
+/* Writes the rounds, in the order of their first threads, by birth. */
 static void waits_put(struct waits *waits)
 {
-    waits_settle(waits);
-    struct wait *first = round_start(waits);
     uint64_t count = 0;
-    for (struct wait *wait = first; wait && (count == 0 || wait != first); wait = wait_of(waits, wait->on))
-        count++;
+    waits_settle(waits);
+    rounds_find(waits);
+    for (size_t i = 0; i < waits->wait_count; i++)
+        for (struct wait *first = &waits->waits[i], *wait = first->begins ? first : NULL; wait;
+             wait = round_next(waits, first, wait))
+            count++;
     output_put((const char *)&count, sizeof count);
-    for (struct wait *wait = first; count > 0; count--, wait = wait_of(waits, wait->on)) {
-        uint64_t has_ended = wait->on == NOBODY ? 2 : (uint64_t)locks_have(&waits->ended, wait->on);
-        uint64_t answer[] = {wait->thread, wait->word, wait->on, has_ended, wait->progress.stored, wait->progress.gone};
-        output_put((const char *)answer, sizeof answer);
-    }
+    for (size_t i = waits->wait_count; i-- > 0;) /* they were added in the reverse order of births */
+        for (struct wait *first = &waits->waits[i], *wait = first->begins ? first : NULL; wait;
+             wait = round_next(waits, first, wait))
+            wait_put(waits, wait);
 }
 
 /* --- Copying ---------------------------------------------------------------------------------------------- */
@@ -951,7 +972,7 @@ static void report_session(struct request *request, struct report *report, const
             make(&report->session, report->question.mode, report->question.length, report->question.most, &made);
     if (report->code == GOODLOCK_OK)
         report->code = goodlock_cycles(&made, &cycles, &more);
-    if (report->code == GOODLOCK_OK)
+    if (report->code == GOODLOCK_OK && !(ways & WAY_COUNT))
         report_write(report, &made, ways, path);
     goodlock_report_free(&made);
     answer[1] = cycles;

@@ -98,6 +98,20 @@ def test_round_tells_how_far_its_threads_are():
     assert len({tuple(found[:4] for found in rounds) for rounds in seen}) == 1, "the waits differ: %s" % seen
 
 
+def test_report_that_is_counted_alone():
+    """Nothing is written of it: a look for cycles takes what they take to be found, and not what all edges take as JSON."""
+    from live import OK, WAY_COUNT, WAY_JSON, Question, answered_reports, copy_events, named_processes
+
+    recording = left_hanging()
+    processes, _ = named_processes(recording, copy_events(recording), {}, False)
+    (process,) = processes.values()
+    for way, is_written in ((WAY_COUNT, False), (WAY_JSON, True)):
+        question = Question("full", 4, 1000)
+        report = next(answered_reports(process, [None], question, way, recording.work_file("report")))
+        assert (report.code, report.cycles, report.more) == (OK, 1, False), report.fault()
+        assert bool(report.data) == is_written, report.data
+
+
 def copied(rounds, began, took=0.0):
     return SimpleNamespace(round=rounds, began=began, ended=began + took)
 
@@ -140,6 +154,54 @@ def test_program_that_still_runs_is_looked_at_twice(monkeypatch, later, running,
     assert (time.monotonic() - start >= 0.5) == bool(running), "the time between the looks"
 
 
+def follower_of(monkeypatch, answers):
+    """One whose reports are these, by process; what it says."""
+    import live
+
+    names = SimpleNamespace(thread_name=str, places=SimpleNamespace(text=str), locks={})
+    processes = {(pid, 0): SimpleNamespace(key=(pid, 0), command="p", names=names) for pid in answers}
+    copies = {
+        key: SimpleNamespace(round=CIRCLE, began=at, ended=at, hash=1, chunks=[1]) for at, key in enumerate(processes)
+    }
+    said = []
+
+    def report_of(recording, process, *_):
+        if isinstance(answers[process.key[0]], Exception):
+            raise answers[process.key[0]]
+        return answers[process.key[0]]
+
+    monkeypatch.setattr(live, "copy_events", lambda recording: copies)
+    monkeypatch.setattr(live, "named_processes", lambda *_: (processes, []))
+    monkeypatch.setattr(live, "report_of", report_of)
+    monkeypatch.setattr(live.Follower, "counted", lambda follower, process: None)
+    follower = live.Follower(
+        SimpleNamespace(directory="r.raw", remove_work=lambda: None), "r.json", 7, None, None, False, said.append
+    )
+    for key in processes:
+        follower.followed[key] = live.Followed()
+        follower.followed[key].round, follower.followed[key].since = CIRCLE, -1.0
+    return follower, said
+
+
+def test_hang_is_told_though_no_report_is_made(monkeypatch):
+    """As where there isn't enough memory for one. Nor does it keep another process from being told of."""
+    from convert import ConvertError
+    from live import Report
+
+    answers = {7: ConvertError("goodlock_live fails"), 8: Report(1, 0, False, b""), 9: Report(0, 1, False, b"{}\n")}
+    follower, said = follower_of(monkeypatch, answers)
+    follower.try_to_look(False)
+    assert said[0] == "no report so far: goodlock_live fails", str(said)
+    assert "no report so far: r.json.8: there wasn't enough memory" in said, str(said)
+    assert "r.json.9.lines: 1 cycle so far; process 9 (p)" in said, str(said)
+    assert [text.split(" waits")[0] for text in said if " hangs: " in text] == [
+        "process %d (p) hangs: 0" % pid for pid in answers
+    ]
+    told = len(said)
+    follower.try_to_look(False)
+    assert len(said) == told, str(said[told:])
+
+
 ENDED = "%s waits for a at live.c:%d, which %s holds, though it has ended"
 FIRST = int(MARKS["live.c", "first"].split(":")[1])
 HANGING = {
@@ -165,6 +227,28 @@ def test_hang_is_told_once_though_others_come_to_wait(command):
     os.kill(live.program, signal.SIGKILL)
     live.end()
     assert " hung: " + HANGING[command] in live.said, live.said
+
+
+CIRCLES = [
+    "main.1:holds waits for a at {0}, which main.2:holds holds; main.2:holds waits for b at {0}, which main.1:holds holds",
+    "main.3:holds_another waits for gate at {1}, which main.4:holds_another holds; "
+    "main.4:holds_another waits for robust at {1}, which main.3:holds_another holds",
+]
+
+
+@pytest.mark.parametrize("later", ["", "1"], ids=["at_once", "later"])
+def test_each_circle_is_told(later):
+    """The first one stays, and others are told behind it."""
+    first, second = (text.format(place("second_of_two"), place("second_of_two_others")) for text in CIRCLES)
+    live = Live("./live", "hangs_twice", *later.split()).is_ready()
+    if later:
+        live.wait_for_words(" hangs: " + first + "\n")
+        live.process.stdin.write(b"\n")
+        live.process.stdin.flush()
+    live.wait_for_words(" hangs: " + first + "; " + second + "\n")
+    os.kill(live.program, signal.SIGKILL)
+    live.end()
+    assert " hung: " + first + "; " + second + "\n" in live.said, live.said
 
 
 def test_first_thread_that_ended():

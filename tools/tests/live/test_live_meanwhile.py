@@ -1,13 +1,19 @@
 """What is told while the program runs: of cycles, of hangs, every so often, and at a signal."""
 
 import os
+import resource
 import signal
 import subprocess
+import sys
 import time
+from types import SimpleNamespace
 
+import pytest
 from c_programs import raw_directory
 from following import ORDERS, Live, cycles_in, lines_of, read_report, reported
 from known_traces import TOOLS, read_line, wait_for, wait_until_all_wait
+
+sys.path.insert(0, os.path.join(TOOLS, "record"))
 
 
 def test_cycle_is_told_while_it_runs():
@@ -36,6 +42,57 @@ def test_cycle_is_told_once_though_the_program_goes_on():
     assert live.says().count("so far") == 1 and len(lines_of()) == 1, live.says()
     live.end(signal.SIGTERM)
     assert len(read_report()["edges"]) == 3 and cycles_in(read_report()) == ORDERS, str(read_report())
+
+
+def test_more_cycles_than_are_listed():
+    """That there are more than --max says is told once, as a new cycle is."""
+    live = Live("./live", "comes_twice", options=["--max", "1"]).is_ready()
+    for said in ("1 cycle so far", "1 cycle (more) so far"):
+        live.process.stdin.write(b"\n")
+        live.process.stdin.flush()
+        live.wait_for_words(said)
+    assert [report["more"] for report in lines_of()] == [False, True], str(lines_of())
+    live.end(signal.SIGTERM)
+
+
+def test_lines_that_cannot_be_written():
+    """It is said once, and what is told on standard error is told all the same."""
+    live = Live("./locks", "deadlock").is_ready()
+    os.mkdir("r.json.lines")
+    live.wait_for_words(" hangs: ")
+    live.process.send_signal(signal.SIGUSR1)
+    time.sleep(1)
+    said = live.says()
+    assert said.count("no line: r.json.lines: File exists\n") == 1 and said.count("1 cycle so far") == 1, said
+    os.kill(live.program, signal.SIGKILL)
+    live.end(status=128 + signal.SIGKILL)
+
+
+def test_half_of_a_line_is_taken_back():
+    """Where there is room for a part of it alone."""
+    from live import Follower  # as a module of the recorder
+
+    follower = Follower(SimpleNamespace(directory="r.raw"), "r.json", 1, None, None, False, None)
+    follower.write_line("r.json.lines", b"first\n")
+    limits = resource.getrlimit(resource.RLIMIT_FSIZE)
+    resource.setrlimit(resource.RLIMIT_FSIZE, (1000, limits[1]))
+    try:
+        with pytest.raises(OSError):
+            follower.write_line("r.json.lines", b"x" * 2000 + b"\n")
+    finally:
+        resource.setrlimit(resource.RLIMIT_FSIZE, limits)
+    with open("r.json.lines") as file:
+        assert file.read() == "first\n", "a part of the line stays"
+
+
+def test_lines_that_somebody_moved_away():
+    """The next line begins another file of that name."""
+    live = Live("./live", "waits", options=["--every", "0.2"]).is_ready()
+    wait_for(lambda: len(lines_of()) >= 2, "lines")
+    os.rename("r.json.lines", "older.lines")
+    wait_for(lambda: len(lines_of()) >= 2, "lines in another file")
+    assert all(cycles_in(line) == ORDERS for line in lines_of()) and "no " not in live.says(), live.says()
+    live.end(signal.SIGTERM)
 
 
 def test_deadlock_is_told_while_it_hangs():

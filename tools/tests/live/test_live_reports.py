@@ -103,6 +103,17 @@ def test_threads_that_come_and_go(path):
         )
 
 
+@pytest.mark.parametrize("others, cycles", [(3, 1), (1500, 0)])
+def test_nothing_is_said_of_cycles_across_windows(others, cycles):
+    """Threads that no window has together: that no cycle is listed doesn't show that there is none."""
+    done = reported("./live", "far_apart", str(others), options=["--every", "0.2"])
+    assert ("in one of 2 windows" in done.said) == (others > 1000), done.said
+    assert [len(read_report()[key]) for key in ("cycles", "edges")] == [cycles, 0 if others > 1000 else 5], done.said
+    assert [report["trim"] for report in [read_report(), *lines_of()[-1:]]] == [None] * (
+        1 + bool(lines_of())
+    ), done.said
+
+
 @pytest.mark.parametrize(
     "program, options, cycles, more",
     [

@@ -398,6 +398,36 @@ def interrupted():
 
 
 @program
+def interrupted_by_a_handler_that_locks():
+    """What the handler takes is taken without the lock that isn't had, and later with it."""
+    held, wanted = queue.SimpleQueue(), queue.SimpleQueue()
+
+    def hold():
+        with a:  # @holds_a
+            held.put(1)
+            wanted.get()
+        held.put(1)
+
+    def handle(*_):
+        with b:  # @handles_b
+            pass
+        1 / 0
+
+    signal.signal(signal.SIGALRM, handle)
+    _thread.start_new_thread(hold, ())
+    held.get()
+    signal.setitimer(signal.ITIMER_REAL, 0.05)
+    for has_it in (False, True):
+        try:
+            with a:  # @handles_a
+                handle()
+        except ZeroDivisionError:
+            if not has_it:
+                wanted.put(1)
+                held.get()
+
+
+@program
 def interrupted_at_last():
     signal.signal(signal.SIGALRM, lambda *_: 1 / 0)
     held_by_another = threading.Lock()

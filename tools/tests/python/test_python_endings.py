@@ -40,6 +40,22 @@ def test_acquire_that_an_exception_ends():
     assert "1 other calls" in run.said, run.said
 
 
+def test_acquire_that_a_locking_handler_ends():
+    """What the handler did is no known part of what is done with the lock later."""
+    expect(
+        "interrupted_by_a_handler_that_locks",
+        """
+        main|acq(Lock@@b#1)|@handles_b
+        main|rel(Lock@@b#1)|@handles_b
+        main|acq(Lock@@a#1)|@handles_a
+        main|acq(Lock@@b#1)|@handles_b
+        main|rel(Lock@@b#1)|@handles_b
+        main|rel(Lock@@a#1)|@handles_a
+        other.1|acq(Lock@@a#1)|@holds_a
+        other.1|rel(Lock@@a#1)|@holds_a""",
+    )
+
+
 def test_acquire_that_an_exception_ends_at_last():
     run = record("interrupted_at_last")
     assert run.status == 5, run.said

@@ -196,6 +196,33 @@ static void hangs(void)
     pause();
 }
 
+static pthread_barrier_t each_of_others_holds_one;
+
+static void *holds_another(void *order)
+{
+    pthread_mutex_lock(order ? &gate : &robust);
+    pthread_barrier_wait(&each_of_others_holds_one);
+    pthread_mutex_lock(order ? &robust : &gate); /* @second_of_two_others */
+    return NULL;
+}
+
+/* Two threads wait for each other, and so do two others: at once, or with an argument when a line is read. */
+static void hangs_twice(void)
+{
+    char line[16];
+    pthread_t thread;
+    pthread_barrier_init(&each_holds_one, NULL, 2);
+    pthread_barrier_init(&each_of_others_holds_one, NULL, 2);
+    for (long i = 0; i < 2; i++)
+        pthread_create(&thread, NULL, holds, (void *)i);
+    say_ready();
+    if (number && !fgets(line, sizeof line, stdin))
+        return;
+    for (long i = 0; i < 2; i++)
+        pthread_create(&thread, NULL, holds_another, (void *)i);
+    pause();
+}
+
 static pthread_t joined;
 
 static void *takes_a(void *unused)
@@ -413,6 +440,42 @@ static void churn(void)
     in_turn(one_way, other_way);
 }
 
+static void *gated_way(void *unused)
+{
+    both(&gate, &b);
+    return unused;
+}
+
+/* A cycle comes when a line is read, and another one at the next line. */
+static void comes_twice(void)
+{
+    char line[16];
+    void *(*const runs[])(void *) = {one_way, gated_way};
+    pthread_t thread;
+    for (int i = 0; i < 2; i++) {
+        pthread_create(&thread, NULL, runs[i], NULL);
+        wait_for_others();
+    }
+    say_ready();
+    for (int i = 0; i < 2 && fgets(line, sizeof line, stdin); i++)
+        both(&b, i == 0 ? &a : &gate);
+    pause();
+}
+
+/* The first and the last thread take two locks in opposite orders. So many others come and go in between that do the same with locks
+ * of which they make no cycle. */
+static void far_apart(void)
+{
+    pthread_t first, other;
+    pthread_create(&first, NULL, one_way, NULL);
+    wait_for_others();
+    for (int i = 0; i <= number; i++) {
+        pthread_create(&other, NULL, i < number ? gated_way : other_way, NULL);
+        pthread_join(other, NULL);
+    }
+    pthread_join(first, NULL);
+}
+
 /* The same with many locks below a gate. */
 static void churn_and_gates(void)
 {
@@ -587,7 +650,8 @@ int main(int count, char **arguments)
         {"own_signal", own_signal}, {"forks", forks}, {"repeats", repeats}, {"killed", killed}, {"races", races},
         {"hangs", hangs}, {"holder_ended", holder_ended}, {"owner_died", owner_died}, {"ring", ring}, {"deletes_itself", deletes_itself},
         {"inherits", inherits}, {"joins", joins}, {"joins_in_a_row", joins_in_a_row}, {"ends", ends}, {"child_ends", child_ends},
-        {"churn_and_gates", churn_and_gates}, {"two_buffers", two_buffers},
+        {"churn_and_gates", churn_and_gates}, {"two_buffers", two_buffers}, {"hangs_twice", hangs_twice},
+        {"comes_twice", comes_twice}, {"far_apart", far_apart},
     };
     own_file = arguments[0];
     number = count > 2 ? atoi(arguments[2]) : 0;

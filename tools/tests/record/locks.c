@@ -800,6 +800,48 @@ static void raw_fork(void)
     pthread_mutex_unlock(&a);                                                  /* @raw_unlock */
 }
 
+static pid_t forked;
+
+static void forks_here(int number)
+{
+    (void)number;
+    forked = fork();
+}
+
+/* Holds the lock, and meanwhile sends a signal to the thread that waits for it. */
+static void *holds_and_signals(void *waiting)
+{
+    pthread_mutex_lock(&a);
+    sem_post(&step);
+    usleep(50000);
+    pthread_kill(*(pthread_t *)waiting, SIGUSR1);
+    sem_wait(&other_step);
+    pthread_mutex_unlock(&a);
+    return NULL;
+}
+
+/* A child of a signal handler goes on in the call that the handler came in. */
+static void forks_in_handler(void)
+{
+    pthread_t thread, own = pthread_self();
+    int status;
+    signal(SIGUSR1, forks_here);
+    pthread_mutex_lock(&b);                                                    /* @handler_b */
+    pthread_create(&thread, NULL, holds_and_signals, &own);                    /* @handler_fork */
+    sem_wait(&step);
+    struct timespec soon = after(CLOCK_REALTIME, 200);
+    MUST(pthread_mutex_timedlock(&a, &soon) == ETIMEDOUT);
+    pthread_mutex_lock(&many[0]);                                              /* @handler_many */
+    pthread_mutex_unlock(&many[0]);                                            /* @handler_many_end */
+    pthread_mutex_unlock(&b);                                                  /* @handler_b_end */
+    if (forked == 0)
+        _exit(0);
+    printf("%d\n", forked);
+    MUST(waitpid(forked, &status, 0) == forked && status == 0);
+    sem_post(&other_step);
+    pthread_join(thread, NULL);                                                /* @handler_join */
+}
+
 static char *program;
 
 static void executes(void)
@@ -974,7 +1016,7 @@ static const struct {
     {"no_threads_amid_many", no_threads_amid_many},
     {"repeats", repeats}, {"volume", volume}, {"volume_and_wait", volume_and_wait}, {"volume_and_thread", volume_and_thread},
     {"no_files", no_files}, {"many_threads", many_threads}, {"forks", forks},
-    {"parent_goes_on", parent_goes_on}, {"raw_fork", raw_fork}, {"executes", executes}, {"clears_environment", clears_environment},
+    {"parent_goes_on", parent_goes_on}, {"raw_fork", raw_fork}, {"forks_in_handler", forks_in_handler}, {"executes", executes}, {"clears_environment", clears_environment},
     {"goes_to_background", goes_to_background}, {"waits_for_signal", waits_for_signal}, {"frames", frames}, {"frames_vary", frames_vary},
     {"table", table}, {"nothing", nothing},
 };

@@ -102,6 +102,22 @@ def test_process_forked_past_the_library():
     )
 
 
+def test_process_forked_by_a_signal_handler():
+    """Amid a call, which goes on in the child, too."""
+    run = record("./locks", "forks_in_handler")
+    assert run.status == 0, run.said
+    compare(
+        run.lines("." + run.out.strip()),
+        known(
+            """
+        main|tryacq(b)|@handler_b
+        main|acq(many)|@handler_many
+        main|rel(many)|@handler_many_end
+        main|rel(b)|@handler_b_end"""
+        ),
+    )
+
+
 def test_program_that_becomes_another():
     run = record("./locks", "executes")
     assert run.status == 0, run.said

@@ -59,7 +59,9 @@ def test_hand_over_hand():
 @pytest.mark.parametrize("times", range(3))
 def test_hand_over_hand_under_signals(times):
     """Wherever a signal comes in between, what is taken is released, and nothing is kept again and again."""
-    lines = record("./storm").lines()
+    run = record("./storm")
+    lines = run.lines()
+    assert run.status == 0, "status %d: %s" % (run.status, run.said)
     is_front_of_a_run(lines)
     assert not any(others_of(lines)[1].values()), "in the end it holds %s" % others_of(lines)[1]
     assert len(lines) < 5000, "%d lines" % len(lines)

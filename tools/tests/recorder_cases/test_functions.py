@@ -41,6 +41,25 @@ def test_without_lines():
     assert first.startswith("main|acq(m)|functions-without-lines+0x") and first.endswith(" (plain)"), first
 
 
+def test_names_of_locks_in_functions():
+    """Without the functions' parameters; arguments of templates stay."""
+    run = Run(["./names"], ["--all"])
+    assert run.status == 0, run.said
+    kind = "space::Kind<void (*)(int, char)>::"
+    known = [
+        "{anonymous}::unnamed",
+        kind + "of_a_class",
+        kind + "operator()::called",
+        kind + "operator<::less",
+        "plain::of_a_function",
+        "of_a_template<char>::of_a_template",
+        "of_a_template<main::{lambda(int)#1}>::of_a_template",
+        "main::{lambda#1}::operator()::of_a_lambda",
+    ]
+    locks = [line.split("|")[1] for line in run.lines()]
+    compare([lock[len("acq(") : -1] for lock in locks if lock.startswith("acq(")], known)
+
+
 def test_names_of_locks_have_none():
     """So a lock has the same name whether or not functions are asked for."""
     names = []

@@ -1,0 +1,87 @@
+"""Signals that come between any two instructions of a lock call, with handlers that take locks (interrupted.c)."""
+
+import re
+
+import pytest
+from c_traces import record
+from known_traces import edges_of, is_front_of_a_run, others_of, read_lines
+
+NO_TRACING = 77
+LAST = 99999
+WALK, NESTED, ALONE = 0, 1, 2  # what the handler does
+
+
+def threads_of(*words, options=()):
+    """The lines of each thread that was interrupted, in the order of their births, without what filled their chunks, and with one name
+    for each thread."""
+    run = record("./interrupted", *map(str, words), options=options)
+    if run.status == NO_TRACING:
+        pytest.skip("no process may be traced here")
+    assert run.status == 0, "status %d: %s" % (run.status, run.said)
+    assert len(run.files()) == 1, "files: %s; %s" % (run.files(), run.said)
+    threads = {}
+    for line in read_lines(run.files()[0]):
+        thread, rest = line.split("|", 1)
+        match = re.fullmatch(r"main\.(\d+):worker", thread)
+        if match and "(filler" not in rest and "(stray" not in rest:
+            rest = re.sub(r"\(main\.[\d.]*", "(main.1.", rest)
+            threads.setdefault(int(match.group(1)), []).append("thread|" + rest)
+    return [threads[number] for number in sorted(threads)]
+
+
+def check(*words, least):
+    """Whether each thread has the same edges as one that isn't interrupted and of which all is kept, with the same first samples, and
+    gives back what it takes."""
+    threads = threads_of(*words)
+    assert len(threads) >= least, "only %d threads were interrupted, or are in the trace" % len(threads)
+    whole = threads_of(*words[:-1], -1, options=["--all"])
+    edges = edges_of(whole[0])
+    assert len(edges) >= 10, "only %d edges" % len(edges)
+    for place, lines in enumerate(threads):
+        where = "%d * %d instructions after the mark" % (place - 1, words[4])
+        is_front_of_a_run(lines)
+        assert not any(others_of(lines)[1].values()), "%s, it holds %s in the end" % (where, others_of(lines)[1])
+        assert edges_of(lines) == edges, "%s, the edges differ" % where
+
+
+@pytest.mark.parametrize("fill", (492, 493))
+def test_where_a_chunk_ends(fill):
+    """The handler fills the chunk that the call has in hand, and goes on in the next one."""
+    check("walk_on", WALK, fill, -1, 1, 180, least=150)
+
+
+@pytest.mark.parametrize("fill", (483, 484))
+def test_where_a_chunk_ends_and_all_is_known(fill):
+    """The call leaves out its own events, and none of the handler's in both chunks."""
+    check("known", WALK, fill, -1, 1, 300, least=250)
+
+
+def test_what_is_news_stays():
+    """What a handler does for the first time is in the trace, though the call that it came in is left out. The first thread isn't
+    interrupted, and the stretch of the last one was over before."""
+    _, *threads, _ = threads_of("within", WALK, 0, -1, 5, LAST)
+    assert len(threads) >= 60, "only %d threads were interrupted, or are in the trace" % len(threads)
+    for place, lines in enumerate(threads):
+        edges = {(edge[1], edge[2]) for edge in edges_of(lines)}
+        for lock in ("own", "own+0x28"):
+            assert ("ring+0x28", lock) in edges, "%d * 5 instructions after the mark, an edge is lost" % place
+
+
+def test_amid_nested_locks():
+    """What the handler takes amid a call isn't known in a context that the trace doesn't have."""
+    check("nested", WALK, 0, -1, 5, LAST, least=100)
+
+
+def test_amid_a_call_that_fails():
+    """Nor is what it takes while the call waits for a lock that it then doesn't get."""
+    check("fail", NESTED, 0, -1, 5, LAST, least=80)
+
+
+def test_amid_a_fork():
+    """Nor in the next segment, before the fork is in the trace."""
+    check("make", WALK, 0, -1, 8, 1000, least=100)
+
+
+@pytest.mark.parametrize("further", (2, 78))
+def test_two_signals(further):
+    check("walk_on", WALK, 492, further, 13, LAST, least=20)
