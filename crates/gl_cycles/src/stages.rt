@@ -45,10 +45,10 @@ const STEPS: usize = 10_000;
 const GROWTH: usize = 8;
 
 // How many times edges are left out with all the effort at most.
-const PASSES: usize = 3;
+const PASSES: usize = 8;
 
 // Of how many edges one is to be left out, so that leaving out once more may pay.
-const WORTH: usize = 2;
+const WORTH: usize = 8;
 
 // How many steps are worth the effort for each reason of one: there are several reasons, and each takes
 // as much effort twice.

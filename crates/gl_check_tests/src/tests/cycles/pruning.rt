@@ -82,6 +82,72 @@ const CASES: &[Case] = &[
         asks: &[
             Ask::Count(Mode::Guarded, 4, 8),
             Ask::Count(Mode::Full, 4, 0),
+            Ask::Longest(Mode::Guarded, 16, 8),
+            Ask::Longest(Mode::Full, 16, 2),
+        ],
+    },
+    // Three threads, each of which ends before the next one begins, take two locks in both orders. The order
+    // of their segments lets a cycle have one edge of them.
+    Case {
+        name: "threads_in_turn",
+        lists: Told(&[
+            &[
+                Fork(1, 1),
+                Join(1, 2),
+                Fork(2, 1),
+                Join(2, 2),
+                Fork(3, 1),
+                Join(3, 2),
+            ],
+            &[Acq(0, 1), Acq(1, 2)],
+            &[Acq(1, 1), Acq(0, 2)],
+            &[Acq(0, 1), Acq(1, 2)],
+        ]),
+        asks: &[
+            Ask::Longest(Mode::Guarded, 4, 3),
+            Ask::Longest(Mode::Full, 4, 1),
+            Ask::Count(Mode::Full, 4, 0),
+        ],
+    },
+    // Two of them are there at once.
+    Case {
+        name: "threads_in_turn, but two",
+        lists: Told(&[
+            &[
+                Fork(1, 1),
+                Join(1, 2),
+                Fork(2, 1),
+                Fork(3, 1),
+                Join(2, 2),
+                Join(3, 2),
+            ],
+            &[Acq(0, 1), Acq(1, 2)],
+            &[Acq(1, 1), Acq(0, 2)],
+            &[Acq(0, 1), Acq(1, 2)],
+        ]),
+        asks: &[
+            Ask::Longest(Mode::Full, 4, 2),
+            Ask::All(Mode::Full, 4, &[&[1, 2]]),
+        ],
+    },
+    // A thread has an edge before it forks another one, and one after that: it isn't over when that begins.
+    Case {
+        name: "threads_in_turn, but later",
+        lists: Told(&[
+            &[
+                Acq(0, 1),
+                Acq(1, 2),
+                Rel(1, 3),
+                Rel(0, 3),
+                Fork(1, 4),
+                Acq(0, 5),
+                Acq(1, 6),
+            ],
+            &[Acq(1, 1), Acq(0, 2)],
+        ]),
+        asks: &[
+            Ask::Longest(Mode::Full, 4, 2),
+            Ask::All(Mode::Full, 4, &[&[1, 2]]),
         ],
     },
     // From the first piece no way leads back past the one across, and so none does from any other. The
