@@ -78,12 +78,16 @@ module _ (before : Segment → Segment → Bool) (mode : Mode) (len : ℕ) (tabl
   nothing_found : finding before mode len table [] ≡ []
   nothing_found = none_passes (all_cycles before mode len (edges_of_table table))
 
-  -- the findings are those that begin with each class in turn
-  pub findings-from : (n : ℕ) → len ≡ suc n → findings before mode len table ≡ blocks_below before mode len table n [] (length table)
+  -- the findings are those of each signature
+  pub findings-block : findings before mode len table ≡ block before mode len table len []
   unfolding findings block
+  findings-block =
+      flat_map-filter (first_with before mode len table) begins_least (lists_below (length table) len) ∙ ap (flat_map found) (sym (map-nothing (lists_below (length table) len)))
+
+  -- and so those that begin with each class in turn
+  pub findings-from : (n : ℕ) → len ≡ suc n → findings before mode len table ≡ blocks_below before mode len table n [] (length table)
   findings-from n is =
-      flat_map-filter (first_with before mode len table) begins_least (lists_below (length table) len)
-      ∙ ap (flat_map found) (sym (map-nothing (lists_below (length table) len)))
+      findings-block
       ∙ ap (λ l. block before mode len table l []) is
       ∙ block-suc n [] ∙ ap (λ l. l ++ blocks_below before mode len table n [] (length table)) nothing_found
 

@@ -13,6 +13,7 @@ pub mod Passed
 pub mod Prepared
 pub mod RunTwice
 pub mod RunnerSteps
+pub mod Shorter
 pub mod Tallied
 pub mod Told
 pub mod Turning

@@ -1,13 +1,17 @@
 //! The search for findings.
-ghost use Rattle.std.specs.Prelude.{◌≡◌, IfOk, IfSome};
+ghost use Rattle.std.specs.Prelude.{◌≡◌, List, Bool, IfOk, IfSome};
+ghost use Rattle.gl_event.specs.declared.events.Segment.{Segment};
+ghost use Rattle.gl_edges.specs.declared.edge.Edge.{Edge};
+ghost use Rattle.gl_edges.specs.declared.edge.Sample.{Sample};
 ghost use Rattle.gl_segments.specs.Clocks.{is_before};
+ghost use Rattle.gl_cycles.specs.Listed.{listed_cycles};
 ghost use Rattle.gl_findings.specs.Listed.{listed_findings};
 ghost use Rattle.gl_findings.specs.bodies.Told.{AreGrounds};
 
 use crate::finder::Finder;
 use crate::grounds::Grounds;
 use crate::parallel::first_findings;
-use gl_cycles::{Found, edges_sought, edges_sought_parallel, first_steps};
+use gl_cycles::{Found, edges_sought, edges_sought_parallel, first_steps, search, search_parallel};
 use gl_edges::EdgeList;
 use gl_event::Memory;
 use gl_filters::Query;
@@ -53,6 +57,74 @@ fn found_soon(
     found_within(alloc, edges, order, query, &grounds)
 }
 
+// The same question, but of cycles no longer than those of these edges can be, and of two edges at least.
+fn shortened(alloc: Global, edges: &EdgeList, order: &Order, query: &Query) -> Result<Query, Memory>
+    ensures { IfOk result
+        (λ shorter. listed_findings shorter (is_before order.now) edges.now
+        ≡ listed_findings query.now (is_before order.now) edges.now) }
+{
+    let sought = Sought::of(edges, order, query);
+    let kept = sought.kept_at_first(alloc)?;
+    let shorter = sought.shortened(alloc, &kept)?;
+    match Query::new(query.mode(), shorter.len.max(2) as u32, query.max()) {
+        Ok(shorter) => Ok(shorter),
+        Err(_) => Ok(*query),
+    }
+}
+
+// The same question, but for one cycle.
+fn for_one(query: &Query) -> Query
+    ensures { result ≡ record query.now { max = 1 } }
+{
+    match Query::new(query.mode(), query.len(), 1) {
+        Ok(one) => one,
+        Err(_) => unreachable!(),
+    }
+}
+
+// No findings, where a search for one cycle found none. None where it found one.
+fn none_without_cycle(alloc: Global, first: &Found, query: &Query) -> Option<Found>
+    ensures { (before : Segment → Segment → Bool) (pairs : List (Edge × Sample))
+        → first.now ≡ listed_cycles (record query.now { max = 1 }) before pairs
+        → IfSome result (λ found. found ≡ listed_findings query.now before pairs) }
+{
+    if first.cycles.as_slice().is_empty() {
+        return Some(Found::listed(Vec::new(alloc), query.max() as usize));
+    }
+    None
+}
+
+// No findings, where there is no cycle.
+fn none_found(
+    alloc: Global,
+    edges: &EdgeList,
+    order: &Order,
+    query: &Query,
+) -> Result<Option<Found>, Memory>
+    ensures { IfOk result
+        (λ none. IfSome none
+        (λ found. found ≡ listed_findings query.now (is_before order.now) edges.now)) }
+{
+    let first = search(alloc, edges, order, &for_one(query))?;
+    Ok(none_without_cycle(alloc, &first, query))
+}
+
+// The same, on several threads.
+fn none_found_parallel(
+    rt: &(impl Threads + Sync),
+    alloc: Global,
+    edges: &EdgeList,
+    order: &Order,
+    query: &Query,
+) -> Result<Option<Found>, Memory>
+    ensures { IfOk result
+        (λ none. IfSome none
+        (λ found. found ≡ listed_findings query.now (is_before order.now) edges.now)) }
+{
+    let first = search_parallel(rt, alloc, edges, order, &for_one(query))?;
+    Ok(none_without_cycle(alloc, &first, query))
+}
+
 // The findings that a search lists that is told this.
 fn first_found(
     alloc: Global,
@@ -88,24 +160,25 @@ fn first_found_parallel(
     Ok(Found::listed(found, query.max() as usize))
 }
 
-/// The first findings of a query over these edges, in the order of their signatures, each shown by the
-/// first of its cycles, and whether there are more.
-///
-/// Signatures grow class by class, among classes of edges that may be in a cycle. Of edges that are alike
-/// but for their threads and segments one is the model; where there is no walk through models of these
-/// classes, or one thread alone runs two of them, no cycle's signature begins so, and it grows no further. For
-/// each signature that begins where it is to be told from the first cycle is looked for, told from each of its
-/// places on.
-///
-/// A search among the edges that [are kept at first](Sought::kept_at_first) comes first, with a few steps for
-/// each edge. Where these don't suffice, what can be seen to be in no cycle is left out, and the search begins
-/// once more.
-///
-/// There may be as many signatures as classes to the power of the greatest length of a cycle. Threads that
-/// run the same code add none.
-///
-/// Err where memory was refused.
-pub fn findings(
+// The first findings of a query whose length is as short as is soon seen.
+fn found_by(alloc: Global, edges: &EdgeList, order: &Order, query: &Query) -> Result<Found, Memory>
+    ensures { IfOk result
+        (λ found. found ≡ listed_findings query.now (is_before order.now) edges.now) }
+{
+    if let Some(found) = found_soon(alloc, edges, order, query)? {
+        return Ok(found);
+    }
+    if let Some(found) = none_found(alloc, edges, order, query)? {
+        return Ok(found);
+    }
+    let kept = edges_sought(alloc, edges, order, query)?;
+    let grounds = Grounds::of(alloc, edges, kept)?;
+    first_found(alloc, edges, order, query, &grounds)
+}
+
+// The same, on several threads.
+fn found_by_parallel(
+    rt: &(impl Threads + Sync),
     alloc: Global,
     edges: &EdgeList,
     order: &Order,
@@ -117,9 +190,42 @@ pub fn findings(
     if let Some(found) = found_soon(alloc, edges, order, query)? {
         return Ok(found);
     }
-    let kept = edges_sought(alloc, edges, order, query)?;
+    if let Some(found) = none_found_parallel(rt, alloc, edges, order, query)? {
+        return Ok(found);
+    }
+    let kept = edges_sought_parallel(rt, alloc, edges, order, query)?;
     let grounds = Grounds::of(alloc, edges, kept)?;
-    first_found(alloc, edges, order, query, &grounds)
+    first_found_parallel(rt, alloc, edges, order, query, &grounds)
+}
+
+/// The first findings of a query over these edges, in the order of their signatures, each shown by the
+/// first of its cycles, and whether there are more.
+///
+/// Signatures grow class by class, among classes of edges that may be in a cycle. Of edges that are alike
+/// but for their threads and segments one is the model; where there is no walk through models of these
+/// classes, or one thread alone runs two of them, no cycle's signature begins so, and it grows no further. For
+/// each signature that begins where it is to be told from the first cycle is looked for, told from each of its
+/// places on.
+///
+/// A search among the edges that [are kept at first](Sought::kept_at_first) comes first, with a few steps for
+/// each edge. Where these don't suffice, a cycle is looked for: without one there are no findings. Else what can be
+/// seen to be in no cycle is left out, and the search begins once more.
+///
+/// There may be as many signatures as classes to the power of the greatest length of a cycle: the query's, or
+/// [how many edges a cycle can have](Sought::shortened), where that is less. Threads that run the same code add none.
+///
+/// Err where memory was refused.
+pub fn findings(
+    alloc: Global,
+    edges: &EdgeList,
+    order: &Order,
+    query: &Query,
+) -> Result<Found, Memory>
+    ensures { IfOk result
+        (λ found. found ≡ listed_findings query.now (is_before order.now) edges.now) }
+{
+    let shorter = shortened(alloc, edges, order, query)?;
+    found_by(alloc, edges, order, &shorter)
 }
 
 /// The same as [`findings`], on several threads.
@@ -135,10 +241,6 @@ pub fn findings_parallel(
     ensures { IfOk result
         (λ found. found ≡ listed_findings query.now (is_before order.now) edges.now) }
 {
-    if let Some(found) = found_soon(alloc, edges, order, query)? {
-        return Ok(found);
-    }
-    let kept = edges_sought_parallel(rt, alloc, edges, order, query)?;
-    let grounds = Grounds::of(alloc, edges, kept)?;
-    first_found_parallel(rt, alloc, edges, order, query, &grounds)
+    let shorter = shortened(alloc, edges, order, query)?;
+    found_by_parallel(rt, alloc, edges, order, &shorter)
 }
