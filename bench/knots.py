@@ -114,6 +114,11 @@ SHAPES = {
             "--threads 200 --depth 6 --sections 2000 --at-once 1",
         ],
     },
+    # Readers wait for writers alone: what reads in any order is in no cycle, and few writers make few.
+    "readers": {
+        "small": ["--threads 50 --locks 60 --depth 4 --sections 6000 --disorder 1 --events 60000 --shared 1"],
+        "large": ["--threads 50 --locks 60 --depth 4 --sections 6000 --disorder 1 --events 60000 --shared 0.99"],
+    },
     # What can be left out is seen in turns, one of which lets the next one leave out more.
     "phases": {"small": ["--threads 250 --sections 2000 --depth 4"], "large": ["--threads 500", ""]},
     # Each edge leads on to thousands, and hardly any path comes back: ways that lead nowhere are to be seen early.
