@@ -1,7 +1,7 @@
 -- A cycle has no more edges than there are exclusions that have all edges between them.
 use Rattle.std.proofs.Common.{◌≡◌, ℕ, ◌<◌, ◌≤◌, ◌⊎◌, inl, inr, Bool, List, length, get_or, Some, refl, sym, ap, subst, ◌∙◌, arith}
 use Rattle.std.specs.Prelude.{◌≢◌, true, slice_get, Option, None, All, Contains}
-use Rattle.std.specs.Option.{option_map}
+use Rattle.std.specs.Option.{option_and_then}
 use Rattle.std.proofs.lemmas.Bool.{cases_lt, cases_order, lt-ltb, or_left, or_right, false≢true}
 use Rattle.std.proofs.lemmas.Option.{slice_get_within, get_or_from_slice_get, same_Some, none-some}
 use Rattle.std_collections.proofs.IndexTableLemmas.Probe.{pigeonhole}
@@ -19,8 +19,8 @@ use Rattle.gl_pruning.specs.declared.turns.Turn.{Turn}
 use Rattle.gl_index.proofs.Lists.{element_at}
 use Rattle.gl_pruning.proofs.Back.{kept_at}
 
-turn_of : (o : Option Turn) (chain : ℕ) → option_map (λ turn. turn.chain) o ≡ Some chain → (turn : Turn) × (o ≡ Some turn) × (turn.chain ≡ chain)
-turn_of (Some turn) chain is = (turn, refl, same_Some turn.chain chain is)
+turn_of : (o : Option Turn) (chain : ℕ) → option_and_then (λ turn. turn.chain) o ≡ Some chain → (turn : Turn) × (o ≡ Some turn) × (turn.chain ≡ Some chain)
+turn_of (Some turn) chain is = (turn, refl, is)
 turn_of None chain is = absurd (none-some chain is)
 
 module _ (clocks : Clocks) (mode : Mode) (len : ℕ) (edges : List Edge) (kept : List Bool) (keeps : KeepsCycles (is_before clocks) mode len edges kept)
@@ -58,10 +58,10 @@ module _ (clocks : Clocks) (mode : Mode) (len : ℕ) (edges : List Edge) (kept :
       by (inr above) = absurd (omega (arith, below, above))
 
   -- two edges of one chain, the first of which has the lower thread, are ordered
-  ordered : (e f : Edge) (t : Turn) → e.thread < f.thread → IsInTurn mode clocks turns e → IsInTurn mode clocks turns f
-      → slice_get turns e.thread ≡ Some t → chain_of turns f.thread ≡ Some t.chain → (asks_order mode ≡ true) × (is_before clocks (second_segment e) (first_segment f) ≡ true)
-  ordered e f t lower in_e in_f at_e at_f =
-      let over = in_f.behind.each e.thread t.chain lower at_f t at_e refl in
+  ordered : (e f : Edge) (t : Turn) (chain : ℕ) → e.thread < f.thread → IsInTurn mode clocks turns e → IsInTurn mode clocks turns f
+      → slice_get turns e.thread ≡ Some t → t.chain ≡ Some chain → chain_of turns f.thread ≡ Some chain → (asks_order mode ≡ true) × (is_before clocks (second_segment e) (first_segment f) ≡ true)
+  ordered e f t chain lower in_e in_f at_e of_e at_f =
+      let over = in_f.behind.each e.thread chain lower at_f t at_e of_e in
       let ends = in_e.over t at_e in
       (ap asks_order over.0, lt-ltb _ _ (omega (arith, ends, over.1)))
 
@@ -81,17 +81,19 @@ module _ (clocks : Clocks) (mode : Mode) (len : ℕ) (edges : List Edge) (kept :
       let same_f : get_or cycle j e ≡ f = get_or_from_slice_get cycle j f e at_f in
       absurd (is.threads_differ i j e lower below (ap (λ d. d.thread) same_e ∙ same ∙ ap (λ d. d.thread) (sym same_f)))
 
-  in_one_chain : (i j : ℕ) (e f : Edge) (t u : Turn) → i < j → slice_get cycle i ≡ Some e → slice_get cycle j ≡ Some f → IsInTurn mode clocks turns e → IsInTurn mode clocks turns f
-      → slice_get turns e.thread ≡ Some t → slice_get turns f.thread ≡ Some u → t.chain ≡ u.chain → ⊥
-  in_one_chain i j e f t u lower at_e at_f in_e in_f turn_e turn_f same =
+  in_one_chain : (i j chain : ℕ) (e f : Edge) → i < j → slice_get cycle i ≡ Some e → slice_get cycle j ≡ Some f → IsInTurn mode clocks turns e → IsInTurn mode clocks turns f
+      → chain_of turns e.thread ≡ Some chain → chain_of turns f.thread ≡ Some chain → ⊥
+  in_one_chain i j chain e f lower at_e at_f in_e in_f of_e of_f =
       elim (cases_order e.thread f.thread) [
         | inl is ↦ absurd (differ i j e f lower at_e at_f is)
         | inr other ↦ elim other [
           | inl below ↦
-              let by = ordered e f t below in_e in_f turn_e (ap (option_map (λ turn. turn.chain)) turn_f ∙ ap Some (sym same)) in
+              let (t, at, is) = turn_of (slice_get turns e.thread) chain of_e in
+              let by = ordered e f t chain below in_e in_f at is of_f in
               not_both i j e f lower at_e at_f by.0 (or_left _ _ by.1)
           | inr above ↦
-              let by = ordered f e u above in_f in_e turn_f (ap (option_map (λ turn. turn.chain)) turn_e ∙ ap Some same) in
+              let (t, at, is) = turn_of (slice_get turns f.thread) chain of_f in
+              let by = ordered f e t chain above in_f in_e at is of_e in
               not_both i j e f lower at_e at_f by.0 (or_right _ _ by.1)
         ]
       ]
@@ -99,10 +101,7 @@ module _ (clocks : Clocks) (mode : Mode) (len : ℕ) (edges : List Edge) (kept :
   -- no exclusion has two edges of the cycle
   apart : (i j : ℕ) (e f : Edge) (x : Exclusion) → i < j → slice_get cycle i ≡ Some e → slice_get cycle j ≡ Some f → IsInTurn mode clocks turns e → IsInTurn mode clocks turns f
       → IsExcluded mode turns x e → IsExcluded mode turns x f → ⊥
-  apart i j e f (InTurn chain) lower at_e at_f in_e in_f has_e has_f =
-      let (t, turn_e, chain_e) = turn_of (slice_get turns e.thread) chain has_e in
-      let (u, turn_f, chain_f) = turn_of (slice_get turns f.thread) chain has_f in
-      in_one_chain i j e f t u lower at_e at_f in_e in_f turn_e turn_f (chain_e ∙ sym chain_f)
+  apart i j e f (InTurn chain) lower at_e at_f in_e in_f has_e has_f = in_one_chain i j chain e f lower at_e at_f in_e in_f has_e has_f
   apart i j e f (UnderLock lock) lower at_e at_f in_e in_f has_e has_f =
       let below = slice_get_within cycle j f at_f in
       let same_e : get_or cycle i e ≡ e = get_or_from_slice_get cycle i e e at_e in

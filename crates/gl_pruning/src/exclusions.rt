@@ -71,6 +71,27 @@ fn is_one_of(mode: Mode, turns: &[Turn], exclusions: &[Exclusion], edge: &Edge) 
     false
 }
 
+// Forgets the chains that aren't among these, so that nobody looks whether their threads take turns.
+fn forget_others(turns: &mut Vec<Turn>, exclusions: &[Exclusion]) {
+    for turn in turns.iter_mut() {
+        if !has_chain(exclusions, turn.chain) {
+            turn.chain = None;
+        }
+    }
+}
+
+// Whether a chain is among these.
+fn has_chain(exclusions: &[Exclusion], chain: Option<usize>) -> bool {
+    for exclusion in exclusions {
+        if let Exclusion::InTurn(of_chain) = *exclusion {
+            if chain == Some(of_chain) {
+                return true;
+            }
+        }
+    }
+    false
+}
+
 impl<'a> Sought<'a> {
     // Whether the edge at a position is kept, and none of these has it.
     fn is_missed(
@@ -135,8 +156,9 @@ impl<'a> Sought<'a> {
             → IsCycle (is_before self.now.order.now) self.now.mode self.now.len cycle
             → length cycle ≤ longest) }
     {
-        let turns = self.turns(alloc, kept)?;
+        let mut turns = self.turns(alloc, kept)?;
         let exclusions = self.exclusions(alloc, &turns, kept)?;
+        forget_others(&mut turns, &exclusions);
         Ok(self.longest_by(&turns, &exclusions, kept))
     }
 

@@ -22,10 +22,11 @@ const CHAINS: usize = 16;
 // How many threads are looked at for each edge at most, as it is checked that chains are in turn.
 const LOOKS_OF_EDGE: usize = 64;
 
-/// The turn of a thread: its chain, by a number, and the last segment in which an edge of the thread ends.
+/// The turn of a thread: its chain, by a number, and the last segment in which an edge of the thread ends. Chains that
+/// don't count are none.
 #[derive(Clone, Copy, Debug)]
 pub(crate) struct Turn {
-    pub(crate) chain: usize,
+    pub(crate) chain: Option<usize>,
     pub(crate) last: u32,
 }
 
@@ -33,11 +34,11 @@ pub(crate) struct Turn {
 pub(crate) fn chain_of(turns: &[Turn], thread: ThreadId) -> Option<usize>
     ensures { result ≡ chain_of turns.now thread }
 {
-    turns.get(thread.number() as usize).map(|turn| turn.chain)
+    match turns.get(thread.number() as usize) {
+        Some(turn) => turn.chain,
+        None => None,
+    }
 }
-
-// The number of the chain of threads without edges.
-const NO_CHAIN: usize = usize::MAX;
 
 // The segment before which it was last seen that all others of a chain are over, and how many threads may still be looked at.
 #[derive(Drop)]
@@ -104,7 +105,7 @@ impl Sought<'_> {
         let Some(turn) = turns.get(thread as usize) else {
             return true;
         };
-        if turn.chain != chain {
+        if turn.chain != Some(chain) {
             return true;
         }
         self.mode == Mode::Full && turn.last < self.order.ahead(*begin, ThreadId::new(thread))
@@ -136,7 +137,10 @@ impl Sought<'_> {
         if looked.was_at(&begin) {
             return true;
         }
-        let looks = begin.thread.number() as usize;
+        let looks = match chain_of(turns, begin.thread) {
+            Some(_) => begin.thread.number() as usize,
+            None => 0,
+        };
         if looked.left < looks || !self.is_behind(turns, &begin) {
             return false;
         }
@@ -208,7 +212,7 @@ impl Sought<'_> {
             turns.push(match span {
                 Some(span) => self.next_turn(&mut chains, span)?,
                 None => Turn {
-                    chain: NO_CHAIN,
+                    chain: None,
                     last: 0,
                 },
             })?;
@@ -255,7 +259,7 @@ impl Sought<'_> {
             None => chains.push(end)?,
         }
         Ok(Turn {
-            chain,
+            chain: Some(chain),
             last: span.last,
         })
     }
