@@ -45,7 +45,8 @@ const CASES: &[Case] = &[
     // Two threads, each of which lets four others run the pieces of a ring of four locks, one after the
     // other's end. Each edge of the ring may run beside edges of the other row that lead back from it, but
     // of four edges in two rows two are in one, where each thread ends before the next one starts: their
-    // segments alone show that no cycle goes through any.
+    // segments alone show that no cycle goes through any. There are eight threads, four locks that are held, and two
+    // rows of threads in turn.
     Case {
         name: "segments_of_no_round",
         lists: Told(&[
@@ -82,12 +83,13 @@ const CASES: &[Case] = &[
         asks: &[
             Ask::Count(Mode::Guarded, 4, 8),
             Ask::Count(Mode::Full, 4, 0),
-            Ask::Longest(Mode::Guarded, 16, 8),
+            Ask::Longest(Mode::Basic, 16, 8),
+            Ask::Longest(Mode::Guarded, 16, 4),
             Ask::Longest(Mode::Full, 16, 2),
         ],
     },
-    // Three threads, each of which ends before the next one begins, take two locks in both orders. The order
-    // of their segments lets a cycle have one edge of them.
+    // Three threads, each of which ends before the next one begins, take two locks in both orders. Two of them hold
+    // the same lock; and by the order of their segments a cycle has one edge of all three.
     Case {
         name: "threads_in_turn",
         lists: Told(&[
@@ -104,7 +106,8 @@ const CASES: &[Case] = &[
             &[Acq(0, 1), Acq(1, 2)],
         ]),
         asks: &[
-            Ask::Longest(Mode::Guarded, 4, 3),
+            Ask::Longest(Mode::Basic, 4, 3),
+            Ask::Longest(Mode::Guarded, 4, 2),
             Ask::Longest(Mode::Full, 4, 1),
             Ask::Count(Mode::Full, 4, 0),
         ],
