@@ -118,16 +118,9 @@ def made_trace(options):
 
 def threads_that_search(program):
     """One thread where one is asked for; else some where the search takes long, though the text is small."""
-    # threads of which each is joined before the next one is forked, which the order of segments alone tells
-    cycles = made_trace("--shape windows --threads 100 --locks 20 --sections 300 --at-once 1")
-    # threads of which half take locks in another order, under one of two gate locks
-    findings = made_trace("--shape two-orders --sections 300")
-    for words, trace in (
-        ("predict", cycles),
-        ("predict --json", cycles),
-        ("predict --findings --len 3", findings),
-        ("stats", cycles),
-    ):
+    # threads that run in phases: there is no cycle, which is seen in turns, each of which leaves out more
+    trace = made_trace("--shape phases --threads 250 --sections 1000 --depth 4")
+    for words in ("predict", "predict --json", "predict --findings", "stats"):
         got = program.counts(f"{words} --jobs 1", trace)[0]
         program.expect(f"{words} --jobs 1 starts no thread for a long search, not {got}", got == 0)
         got = program.counts(f"{words} --jobs 2", trace)[0]
