@@ -4,6 +4,7 @@ use Rattle.gl_event.specs.declared.events.Event.{Event}
 use Rattle.gl_std.specs.Names.{NameLists}
 use Rattle.gl_renumbering.specs.Tales.{have_names, lists_by_mention, names_by_mention, TellTheSame}
 use Rattle.gl_filters.specs.Asked.{Asked}
+use Rattle.gl_findings.specs.declared.listing.Listing.{Listing}
 use Rattle.gl_c.specs.Reporting.{settled_lists, IsMaking, HoldsReportOf}
 use Rattle.gl_c.specs.declared.codes.TheConstants.{MISUSE, RANGE, UNNAMED}
 use Rattle.gl_c.specs.declared.made_state.MadeState.{MadeState}
@@ -13,41 +14,46 @@ use Rattle.gl_c.specs.declared.session_state.SessionState.{SessionState}
 abbrev pub names_for : SessionState → MadeState → NameLists
 names_for state made = unwrap_or made.names state.names
 
--- the handle is of the Goodlock report of the lists by mention, with the names by mention
-abbrev pub IsByMention : Asked → NameLists → List (List Event) → Option MadeState → Type 0
-IsByMention asked names lists now =
-    HoldsReportOf asked (lists_by_mention names lists) (Some (names_by_mention names lists)) now
+-- the handle is of the report of the lists by mention that lists cycles, their Goodlock report, or findings; with the names by mention
+abbrev pub IsByMention : Listing → Asked → NameLists → List (List Event) → Option MadeState → Type 0
+IsByMention listing asked names lists now =
+    HoldsReportOf listing asked (lists_by_mention names lists)
+    (Some (names_by_mention names lists)) now
 
 -- such a report is made where all locks and places of the lists have names
-abbrev pub IsMakingByMention : Bool → Asked → NameLists → List (List Event) → Option MadeState → ℕ
-    → Option MadeState → Type 0
-IsMakingByMention true asked names lists was answer now =
-    IsMaking asked (lists_by_mention names lists)
+abbrev pub IsMakingByMention : Bool → Listing → Asked → NameLists → List (List Event)
+    → Option MadeState → ℕ → Option MadeState → Type 0
+IsMakingByMention true listing asked names lists was answer now =
+    IsMaking listing asked (lists_by_mention names lists)
     (Some (names_by_mention names lists)) was answer now
-IsMakingByMention false asked names lists was answer now = (answer ≡ UNNAMED) × (now ≡ was)
+IsMakingByMention false listing asked names lists was answer now =
+    (answer ≡ UNNAMED) × (now ≡ was)
 
 -- it is made where there are such a query and such lists
-abbrev pub IsReportingByMention : Option Asked → NameLists → Option (List (List Event))
+abbrev pub IsReportingByMention : Listing → Option Asked → NameLists → Option (List (List Event))
     → Option MadeState → ℕ → Option MadeState → Type 0
-IsReportingByMention None names lists was answer now = (answer ≡ RANGE) × (now ≡ was)
-IsReportingByMention (Some asked) names None was answer now = (answer ≡ MISUSE) × (now ≡ was)
-IsReportingByMention (Some asked) names (Some lists) was answer now =
-    IsMakingByMention (have_names names lists) asked names lists was answer now
+IsReportingByMention listing None names lists was answer now = (answer ≡ RANGE) × (now ≡ was)
+IsReportingByMention listing (Some asked) names None was answer now =
+    (answer ≡ MISUSE) × (now ≡ was)
+IsReportingByMention listing (Some asked) names (Some lists) was answer now =
+    IsMakingByMention (have_names names lists) listing asked names lists was answer now
 
 -- the report of a settled session is made so into a handle that was of nothing
-abbrev pub IsReportByMention : Option SessionState → Option Asked → Option MadeState → ℕ
+abbrev pub IsReportByMention : Listing → Option SessionState → Option Asked → Option MadeState → ℕ
     → Option MadeState → Type 0
-IsReportByMention None asked was answer now = (answer ≡ MISUSE) × (now ≡ was)
-IsReportByMention (Some state) asked (Some made) answer now = (answer ≡ MISUSE) × (now ≡ Some made)
-IsReportByMention (Some state) asked None answer now =
-    IsReportingByMention asked state.names (settled_lists state.stage) None answer now
+IsReportByMention listing None asked was answer now = (answer ≡ MISUSE) × (now ≡ was)
+IsReportByMention listing (Some state) asked (Some made) answer now =
+    (answer ≡ MISUSE) × (now ≡ Some made)
+IsReportByMention listing (Some state) asked None answer now =
+    IsReportingByMention listing asked state.names (settled_lists state.stage) None answer now
 
 -- where lists tell the same, whatever numbers their locks and places have, what is made of them by mention is the same: the
 -- report, and the names that it is printed by
 abbrev pub SameTalesSameReport : Type 0
 SameTalesSameReport =
-    (asked : Asked) (names others : NameLists) (lists other_lists : List (List Event))
-    (made other : MadeState)
+    (listing : Listing) (asked : Asked) (names others : NameLists)
+    (lists other_lists : List (List Event)) (made other : MadeState)
     → TellTheSame names lists others other_lists
-    → IsByMention asked names lists (Some made) → IsByMention asked others other_lists (Some other)
+    → IsByMention listing asked names lists (Some made)
+    → IsByMention listing asked others other_lists (Some other)
     → made ≡ other

@@ -1,13 +1,15 @@
 -- What making a report does.
 use Rattle.std.specs.Prelude.{◌≡◌, ℕ, ◌==◌, List, [], ◌∷◌, Option, Some, None, Result, Ok, Err, if◌then◌else◌, is_some, option_and_then}
 use Rattle.gl_event.specs.declared.events.Event.{Event}
-use Rattle.gl_cycles.specs.Reports.{IsGoodlockReport, IsReportFault}
+use Rattle.gl_cycles.specs.Reports.{IsReportFault}
 use Rattle.gl_cycles.specs.declared.found.Report.{Report}
 use Rattle.gl_cycles.specs.declared.found.ReportFault.{ReportFault}
 use Rattle.gl_cycles.specs.declared.found.ReportFault.TheVariants as fault
 use Rattle.gl_filters.specs.Asked.{Asked, first_out_of_range}
 use Rattle.gl_filters.specs.declared.query.Mode.{Mode}
 use Rattle.gl_filters.specs.declared.query.Mode.TheVariants.{Basic, Guarded, Full}
+use Rattle.gl_findings.specs.Reports.{IsReportOf}
+use Rattle.gl_findings.specs.declared.listing.Listing.{Listing}
 use Rattle.gl_intake.specs.Stream.{logs_of}
 use Rattle.gl_std.specs.Names.{NameLists}
 use Rattle.gl_c.specs.Calls.{IsOneOf}
@@ -49,28 +51,30 @@ abbrev pub report_code : ReportFault → ℕ
 report_code (fault.Inconsistent at ring) = INCONSISTENT
 report_code fault.Memory = MEMORY
 
--- the handle is of the report, with these names of its own or with none
-abbrev pub IsOf : Report → Option NameLists → Option MadeState → Type 0
-IsOf report names (Some made) = (made.report ≡ report) × (made.names ≡ names)
-IsOf report names None = ⊥
+-- the handle is of the report, which lists this, with these names of its own or with none
+abbrev pub IsOf : Listing → Report → Option NameLists → Option MadeState → Type 0
+IsOf listing report names (Some made) =
+    (made.report ≡ report) × (made.listing ≡ listing) × (made.names ≡ names)
+IsOf listing report names None = ⊥
 
 -- the report is put into the handle, or memory is refused; and where there is none, it is said why. The handle is as it was then
-pub record IsKeeping (was : Option MadeState) (report : Report) (names : Option NameLists)
-    (answer : ℕ) (now : Option MadeState) : Type 0 where
+pub record IsKeeping (listing : Listing) (was : Option MadeState) (report : Report)
+    (names : Option NameLists) (answer : ℕ) (now : Option MadeState) : Type 0 where
   pub answers : IsOneOf answer (OK ∷ MEMORY ∷ [])
-  pub done : answer ≡ OK → IsOf report names now
+  pub done : answer ≡ OK → IsOf listing report names now
   pub same : (answer ≡ OK → ⊥) → now ≡ was
 
-abbrev pub IsKept : Option MadeState → Result Report ReportFault → Option NameLists → ℕ
+abbrev pub IsKept : Listing → Option MadeState → Result Report ReportFault → Option NameLists → ℕ
     → Option MadeState → Type 0
-IsKept was (Ok report) names answer now = IsKeeping was report names answer now
-IsKept was (Err fault) names answer now = (answer ≡ report_code fault) × (now ≡ was)
+IsKept listing was (Ok report) names answer now = IsKeeping listing was report names answer now
+IsKept listing was (Err fault) names answer now = (answer ≡ report_code fault) × (now ≡ was)
 
--- the handle is of the Goodlock report of these lists, with these names of its own or with none
-abbrev pub HoldsReportOf : Asked → List (List Event) → Option NameLists → Option MadeState → Type 0
-HoldsReportOf asked lists names (Some made) =
-    IsGoodlockReport asked lists made.report × (made.names ≡ names)
-HoldsReportOf asked lists names None = ⊥
+-- the handle is of the report of these lists that lists cycles, their Goodlock report, or findings; with these names of its own or with none
+abbrev pub HoldsReportOf : Listing → Asked → List (List Event) → Option NameLists
+    → Option MadeState → Type 0
+HoldsReportOf listing asked lists names (Some made) =
+    IsReportOf listing asked lists made.report × (made.listing ≡ listing) × (made.names ≡ names)
+HoldsReportOf listing asked lists names None = ⊥
 
 -- the lists have no report, for this reason
 pub record HaveNoReport (lists : List (List Event)) (answer : ℕ) : Type 0 where
@@ -78,25 +82,27 @@ pub record HaveNoReport (lists : List (List Event)) (answer : ℕ) : Type 0 wher
   pub is : IsReportFault lists fault
   pub tells : answer ≡ report_code fault
 
--- the Goodlock report of the lists is made into the handle; or the handle is as it was, and it is said why
-pub record IsMaking (asked : Asked) (lists : List (List Event)) (names : Option NameLists)
-    (was : Option MadeState) (answer : ℕ) (now : Option MadeState) : Type 0 where
-  pub done : answer ≡ OK → HoldsReportOf asked lists names now
+-- the report of the lists that lists this is made into the handle; or the handle is as it was, and it is said why
+pub record IsMaking (listing : Listing) (asked : Asked) (lists : List (List Event))
+    (names : Option NameLists) (was : Option MadeState) (answer : ℕ) (now : Option MadeState)
+    : Type 0 where
+  pub done : answer ≡ OK → HoldsReportOf listing asked lists names now
   pub same : (answer ≡ OK → ⊥) → now ≡ was
   pub fault : (answer ≡ OK → ⊥) → HaveNoReport lists answer
 
 -- a report is made where there are such a query and such lists. It has no names of its own
-abbrev pub IsReporting : Option Asked → Option (List (List Event)) → Option MadeState → ℕ
+abbrev pub IsReporting : Listing → Option Asked → Option (List (List Event)) → Option MadeState → ℕ
     → Option MadeState → Type 0
-IsReporting None lists was answer now = (answer ≡ RANGE) × (now ≡ was)
-IsReporting (Some asked) None was answer now = (answer ≡ MISUSE) × (now ≡ was)
-IsReporting (Some asked) (Some lists) was answer now = IsMaking asked lists None was answer now
+IsReporting listing None lists was answer now = (answer ≡ RANGE) × (now ≡ was)
+IsReporting listing (Some asked) None was answer now = (answer ≡ MISUSE) × (now ≡ was)
+IsReporting listing (Some asked) (Some lists) was answer now =
+    IsMaking listing asked lists None was answer now
 
 -- a session's report is made into a handle that was of nothing
-abbrev pub IsReportCall : (Stage → Option (List (List Event))) → Option SessionState → Option Asked
-    → Option MadeState → ℕ → Option MadeState → Type 0
-IsReportCall lists_of None asked was answer now = (answer ≡ MISUSE) × (now ≡ was)
-IsReportCall lists_of (Some state) asked (Some made) answer now =
+abbrev pub IsReportCall : Listing → (Stage → Option (List (List Event))) → Option SessionState
+    → Option Asked → Option MadeState → ℕ → Option MadeState → Type 0
+IsReportCall listing lists_of None asked was answer now = (answer ≡ MISUSE) × (now ≡ was)
+IsReportCall listing lists_of (Some state) asked (Some made) answer now =
     (answer ≡ MISUSE) × (now ≡ Some made)
-IsReportCall lists_of (Some state) asked None answer now =
-    IsReporting asked (lists_of state.stage) None answer now
+IsReportCall listing lists_of (Some state) asked None answer now =
+    IsReporting listing asked (lists_of state.stage) None answer now

@@ -1,8 +1,6 @@
 //! The calls on a report that was made.
-ghost use Rattle.std.specs.Prelude.{◌≡◌, ◌++◌, None, codes, length};
-ghost use Rattle.serde_json.specs.Written.{compact_text};
-ghost use Rattle.gl_report.specs.Text.{report_text};
-ghost use Rattle.gl_report.specs.Tree.{report_tree};
+ghost use Rattle.std.specs.Prelude.{◌≡◌, None, length};
+ghost use Rattle.gl_report.specs.Listings.{listed_json, listed_text};
 ghost use Rattle.gl_c.specs.Calls.{IsCall, IsGiven, IsGiving, IsGivingOf};
 ghost use Rattle.gl_c.specs.Mentioning.{names_for};
 ghost use Rattle.gl_c.specs.declared.codes.TheConstants.{OK, MISUSE};
@@ -12,7 +10,7 @@ use crate::made::Made;
 use crate::made_state::MadeState;
 use crate::session::Session;
 use crate::session_state::SessionState;
-use gl_report::{json_text, text};
+use gl_report::{listed_json_text, listed_text};
 use gl_std::Names;
 use std::alloc::Global;
 
@@ -45,11 +43,11 @@ fn give_text(
     buffer: &mut [u8],
     needed: &mut usize,
 ) -> u32
-    ensures { IsGiving (report_text (names_for session.now made.now) made.now.report.edges
-        made.now.report.found.cycles made.now.report.found.more)
+    ensures { IsGiving
+        (listed_text made.now.listing (names_for session.now made.now) made.now.report)
         buffer.old needed.old result buffer.new needed.new }
 {
-    let Ok(text) = text(alloc, names_for(session, made), &made.report) else {
+    let Ok(text) = listed_text(alloc, made.listing, names_for(session, made), &made.report) else {
         return MEMORY;
     };
     give(&text, buffer, needed);
@@ -67,8 +65,8 @@ pub extern "C" fn goodlock_text(
 ) -> u32
     ensures session { session.new.value ≡ session.old.value }
     ensures report { report.new.value ≡ report.old.value }
-    ensures given { IsGivingOf (λ state made. report_text (names_for state made) made.report.edges
-        made.report.found.cycles made.report.found.more)
+    ensures given { IsGivingOf
+        (λ state made. listed_text made.listing (names_for state made) made.report)
         session.old.value report.old.value buffer.old needed.old result buffer.new needed.new }
 {
     let Some(state) = session.take(alloc) else {
@@ -93,10 +91,11 @@ fn give_json(
     needed: &mut usize,
 ) -> u32
     ensures { IsGiving
-        (compact_text (report_tree (names_for session.now made.now) made.now.report) ++ codes "\n")
+        (listed_json made.now.listing (names_for session.now made.now) made.now.report)
         buffer.old needed.old result buffer.new needed.new }
 {
-    let Ok(text) = json_text(alloc, names_for(session, made), &made.report) else {
+    let Ok(text) = listed_json_text(alloc, made.listing, names_for(session, made), &made.report)
+    else {
         return MEMORY;
     };
     give(&text, buffer, needed);
@@ -115,7 +114,7 @@ pub extern "C" fn goodlock_json(
     ensures session { session.new.value ≡ session.old.value }
     ensures report { report.new.value ≡ report.old.value }
     ensures given { IsGivingOf
-        (λ state made. compact_text (report_tree (names_for state made) made.report) ++ codes "\n")
+        (λ state made. listed_json made.listing (names_for state made) made.report)
         session.old.value report.old.value buffer.old needed.old result buffer.new needed.new }
 {
     let Some(state) = session.take(alloc) else {
@@ -131,7 +130,7 @@ pub extern "C" fn goodlock_json(
     answer
 }
 
-/// How many cycles the report lists, and whether there are more.
+/// How many cycles the report lists, or findings, and whether there are more.
 #[unsafe(no_mangle)]
 pub extern "C" fn goodlock_cycles(
     alloc: Global,

@@ -1,5 +1,6 @@
 //! What a report's handle is of.
 use gl_cycles::Report;
+use gl_findings::Listing;
 use gl_std::Names;
 
 /// A report that was made.
@@ -7,6 +8,8 @@ use gl_std::Names;
 pub struct MadeState {
     /// The report.
     pub report: Report,
+    /// What it lists.
+    pub listing: Listing,
     /// The names that it is printed by, where locks and places were numbered by first mention. Else those of
     /// the session are.
     pub names: Option<Names>,

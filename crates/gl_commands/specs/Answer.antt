@@ -1,6 +1,5 @@
 -- What is answered to a text: what a command prints of its trace, or why it prints nothing.
-use Rattle.std.specs.Prelude.{◌≡◌, ◌++◌, ℕ, Bool, List, Ok, Err, length, nat_lt, if◌then◌else◌, codes}
-use Rattle.serde_json.specs.Written.{compact_text}
+use Rattle.std.specs.Prelude.{◌≡◌, ℕ, Bool, List, Ok, Err, length, nat_lt, if◌then◌else◌}
 use Rattle.gl_event.specs.Bounds.{Bounds, greatest}
 use Rattle.gl_event.specs.declared.events.Event.{Event}
 use Rattle.gl_event.specs.declared.events.Segment.{Segment}
@@ -19,9 +18,7 @@ use Rattle.gl_findings.specs.Reports.{listing_by}
 use Rattle.gl_findings.specs.declared.listing.Listing.{Listing}
 use Rattle.gl_findings.specs.declared.listing.Listing.TheVariants as lists
 use Rattle.gl_report.specs.Counts.{stats_of, stats_text}
-use Rattle.gl_report.specs.Findings.{findings_tree}
-use Rattle.gl_report.specs.Text.{findings_text, report_text}
-use Rattle.gl_report.specs.Tree.{report_tree}
+use Rattle.gl_report.specs.Listings.{listed_json, listed_text}
 use Rattle.gl_commands.specs.RefusalLines.{fault_line, inconsistent_line}
 use Rattle.gl_options.specs.declared.form.Form.{Form}
 use Rattle.gl_options.specs.declared.form.Form.TheVariants.{Text, Json}
@@ -46,14 +43,8 @@ report_of listing asked before trace = listing_by listing asked before (edges tr
 
 -- a report that lists cycles, or findings, in the form that is asked for
 abbrev pub printed_report : Listing → Form → NameLists → Report → List ℕ
-printed_report lists.Cycles Text names report =
-    report_text names report.edges report.found.cycles report.found.more
-printed_report lists.Cycles Json names report =
-    compact_text (report_tree names report) ++ codes "\n"
-printed_report lists.Findings Text names report =
-    findings_text names report.edges report.found.cycles report.found.more
-printed_report lists.Findings Json names report =
-    compact_text (findings_tree names report.query report.edges report.found) ++ codes "\n"
+printed_report listing Text names report = listed_text listing names report
+printed_report listing Json names report = listed_json listing names report
 
 -- whether a report lists a cycle, or a finding
 abbrev pub outcome_of : Report → Outcome

@@ -24,7 +24,7 @@ use gl_event::Memory;
 use gl_filters::Query;
 use gl_findings::{Contents, Listing, report_with, report_with_parallel};
 use gl_options::Form;
-use gl_report::{Stats, findings_json_text, findings_text, json_text, stats_text, text};
+use gl_report::{Stats, listed_json_text, listed_text, stats_text};
 use gl_segments::{Order, OrderFault};
 use gl_std::{Names, ReadFault, Trace};
 use gl_writing::write_trace;
@@ -79,38 +79,6 @@ pub(crate) fn order_or_line(alloc: Global, trace: &Trace) -> Result<Order, Ended
     }
 }
 
-// A report that lists cycles, in this form.
-fn print_cycles(
-    alloc: Global,
-    form: Form,
-    names: &Names,
-    report: &Report,
-) -> Result<Vec<u8>, Memory>
-    ensures { IfOk result (λ t. t.items ≡ printed_report Cycles form names.now report.now) }
-{
-    match form {
-        Form::Text => text(alloc, names, report),
-        Form::Json => json_text(alloc, names, report),
-    }
-}
-
-// A report that lists findings, in this form.
-fn print_findings(
-    alloc: Global,
-    form: Form,
-    names: &Names,
-    report: &Report,
-) -> Result<Vec<u8>, Memory>
-    ensures { IfOk result (λ t. t.items ≡ printed_report Findings form names.now report.now) }
-{
-    match form {
-        Form::Text => findings_text(alloc, names, &report.edges, &report.found),
-        Form::Json => {
-            findings_json_text(alloc, names, &report.query, &report.edges, &report.found)
-        }
-    }
-}
-
 // A report that lists cycles, or findings, in this form.
 fn print(
     alloc: Global,
@@ -121,9 +89,9 @@ fn print(
 ) -> Result<Vec<u8>, Memory>
     ensures { IfOk result (λ t. t.items ≡ printed_report listing form names.now report.now) }
 {
-    match listing {
-        Listing::Cycles => print_cycles(alloc, form, names, report),
-        Listing::Findings => print_findings(alloc, form, names, report),
+    match form {
+        Form::Text => listed_text(alloc, listing, names, report),
+        Form::Json => listed_json_text(alloc, listing, names, report),
     }
 }
 

@@ -1,5 +1,4 @@
 -- The words of loops and private functions. No public contract cites them.
 pub mod Blocks
 pub mod Dealt
-pub mod NoReport
 pub mod Searching

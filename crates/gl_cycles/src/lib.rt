@@ -42,7 +42,7 @@ pub use laws::{
     no_cycle_if_all_go, reports_are_unique, trims_are_unique,
 };
 pub use reports::{
-    report_by, report_by_parallel, report_of_lists, report_over, report_over_parallel,
+    no_report, report_by, report_by_parallel, report_of_lists, report_over, report_over_parallel,
 };
 pub use roots::{RootedSearch, found_by_roots};
 pub use searches::{search, search_parallel};

@@ -1,5 +1,7 @@
 //! The collector of a session.
 ghost use Rattle.std.specs.Prelude.{◌≡◌, ◌<◌, ℕ, Some, slice_get, IfOk, IfErr, OnErr};
+ghost use Rattle.gl_event.specs.Bounds.{greatest};
+ghost use Rattle.gl_event.specs.Lawful.{AreLawful, lists_of};
 ghost use Rattle.gl_cycles.specs.Reports.{IsGoodlockReport, IsReportFault};
 ghost use Rattle.gl_intake.specs.Stream.{events_of, logs_of, AreInOrder};
 ghost use Rattle.gl_engine.specs.Collecting.{Pulling, lanes_of, IsPull};
@@ -74,6 +76,15 @@ impl Collector {
         self.intake.log(thread)
     }
 
+    /// The events of each thread that were collected so far, in the order of thread numbers. They are at most 1,024
+    /// lists, and each is lawful under the greatest limits.
+    pub fn lists(&self) -> &[Vec<Event>]
+        ensures value { lists_of result.now ≡ logs_of self.now.limits.threads self.now.stream }
+        ensures lawful { AreLawful greatest (lists_of result.now) }
+    {
+        self.intake.logs()
+    }
+
     /// All notes collected so far, in the order in which they were pulled. Each was its thread's next
     /// one after those before it.
     pub fn stream(&self) -> &[Note]
@@ -94,6 +105,6 @@ impl Collector {
         ensures fault { IfErr result
             (λ fault. IsReportFault (logs_of self.now.limits.threads self.now.stream) fault) }
     {
-        report_of_lists(self.alloc, self.intake.logs(), query)
+        report_of_lists(self.alloc, self.lists(), query)
     }
 }

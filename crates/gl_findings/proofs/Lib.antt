@@ -6,6 +6,7 @@ pub mod Cutting
 pub mod Dealt
 pub mod FirstPlaces
 pub mod LeastTurns
+pub mod ListingsAgree
 pub mod ModelSteps
 pub mod Modelled
 pub mod NextFlagged

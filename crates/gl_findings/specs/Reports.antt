@@ -4,11 +4,12 @@ use Rattle.gl_event.specs.declared.events.Event.{Event}
 use Rattle.gl_event.specs.declared.events.Segment.{Segment}
 use Rattle.gl_segments.specs.Laws.{DecidesBefore}
 use Rattle.gl_segments.specs.Segments.{IsConsistent}
+use Rattle.gl_edges.specs.Edges.{edges}
 use Rattle.gl_edges.specs.declared.edge.Edge.{Edge}
 use Rattle.gl_edges.specs.declared.edge.Sample.{Sample}
 use Rattle.gl_filters.specs.Asked.{Asked}
 use Rattle.gl_cycles.specs.Listed.{listed_cycles}
-use Rattle.gl_cycles.specs.Reports.{report_by}
+use Rattle.gl_cycles.specs.Reports.{report_by, IsGoodlockReport}
 use Rattle.gl_cycles.specs.declared.found.Found.{Found}
 use Rattle.gl_cycles.specs.declared.found.Report.{Report}
 use Rattle.gl_findings.specs.Listed.{listed_findings}
@@ -51,3 +52,15 @@ pub record IsReportWith
   pub decides : DecidesBefore lists before
   -- the report is made by it
   pub is : report ≡ report_with contents asked before pairs
+
+-- this is the report of these lists that lists cycles, which is their Goodlock report, or the one that lists findings: both over their own edges
+abbrev pub IsReportOf : Listing → Asked → List (List Event) → Report → Type 0
+IsReportOf Cycles asked lists report = IsGoodlockReport asked lists report
+IsReportOf Findings asked lists report =
+    IsReportWith only.Findings asked (edges lists) lists report
+
+-- which report it is follows from what it lists, what was asked and the lists
+abbrev pub ListingsAreUnique : Type 0
+ListingsAreUnique =
+    (listing : Listing) (asked : Asked) (lists : List (List Event)) (a b : Report)
+    → IsReportOf listing asked lists a → IsReportOf listing asked lists b → a ≡ b

@@ -5,6 +5,7 @@ ghost use Rattle.gl_edges.specs.declared.edge.Edge.{Edge};
 ghost use Rattle.gl_edges.specs.declared.edge.Sample.{Sample};
 ghost use Rattle.gl_filters.specs.declared.query.Mode.{Mode};
 ghost use Rattle.gl_findings.specs.Laws.{NoneIsMissed, EachIsCycle, NoneIsTwice};
+ghost use Rattle.gl_findings.specs.Reports.{ListingsAreUnique};
 
 /// Each cycle of the mode and of at most so many edges is one finding with a cycle that is shown: what is
 /// listed misses none, where there are no more.
@@ -23,4 +24,9 @@ pub fn findings_are_cycles()
 pub fn findings_differ()
     ensures { (before : Segment → Segment → Bool) (mode : Mode) (len : ℕ)
         (table : List (Edge × Sample)) → NoneIsTwice before mode len table }
+{}
+
+/// What a report of lists lists, what was asked and the lists decide the report.
+pub fn listings_are_unique()
+    ensures { ListingsAreUnique }
 {}

@@ -26,7 +26,7 @@ mod turns;
 
 pub use classes::classes_of;
 pub use counts::{ClassCounts, class_counts};
-pub use laws::{findings_are_cycles, findings_differ, no_finding_is_missed};
+pub use laws::{findings_are_cycles, findings_differ, listings_are_unique, no_finding_is_missed};
 pub use listing::{Contents, Listing};
-pub use reports::{report_with, report_with_parallel};
+pub use reports::{report_of_lists, report_with, report_with_parallel};
 pub use search::{findings, findings_parallel};

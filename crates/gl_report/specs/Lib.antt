@@ -2,6 +2,7 @@ pub mod Counts
 pub mod Escapes
 pub mod Exclusive
 pub mod Findings
+pub mod Listings
 pub mod Text
 pub mod Tree
 pub mod TreeV1
