@@ -28,7 +28,7 @@ use Rattle.gl_pruning.proofs.Back.{kept_at}
 use Rattle.gl_pruning.proofs.ByKinds.{from_not_true, place_within, place_first, place_round, place_follows}
 
 -- an edge that may follow another one holds the lock which that wants, and has another thread
-beside : (before : Segment → Segment → Bool) (mode : Mode) (e f : Edge) → is_compatible before mode e f ≡ true → (e.wanted ≡ f.held) × (e.thread ≢ f.thread)
+pub beside : (before : Segment → Segment → Bool) (mode : Mode) (e f : Edge) → is_compatible before mode e f ≡ true → (e.wanted ≡ f.held) × (e.thread ≢ f.thread)
 unfolding is_compatible
 beside before mode e f fits =
     let parts = and_parts (leads_to e f) _ (and_parts (leads_to e f && not (eqb e.thread f.thread)) (is_clear before mode e f) fits).0 in
@@ -36,27 +36,37 @@ beside before mode e f fits =
 
 module _ (before : Segment → Segment → Bool) (mode : Mode) (len : ℕ) (cycle : List Edge) (is : IsCycle before mode len cycle) (k : ℕ) (e : Edge) (at : slice_get cycle k ≡ Some e) where
   -- the next edge
-  follower : (j : ℕ) × (f : Edge) × (slice_get cycle j ≡ Some f) × (e.wanted ≡ f.held) × (e.thread ≢ f.thread)
-  follower =
+  pub next_edge : (j : ℕ) × (f : Edge) × (slice_get cycle j ≡ Some f) × (is_compatible before mode e f ≡ true)
+  next_edge =
       let n = length cycle in
       let below = slice_get_within cycle k e at in
       let j = place_after n k 1 in
       let f = element_at cycle j (place_within n k 1 below (omega (arith, is.two_or_more))) in
       let next : following n k ≡ j = ap (following n) (sym (place_first n k below)) ∙ place_follows n k 0 below (omega (arith, is.two_or_more)) in
-      let fits = beside before mode e f.0 (compatible_round before mode len cycle is k e f.0 at (ap (slice_get cycle) next ∙ f.1)) in
-      (j, f.0, f.1, fits.0, fits.1)
+      (j, f.0, f.1, compatible_round before mode len cycle is k e f.0 at (ap (slice_get cycle) next ∙ f.1))
+
+  follower : (j : ℕ) × (f : Edge) × (slice_get cycle j ≡ Some f) × (e.wanted ≡ f.held) × (e.thread ≢ f.thread)
+  follower =
+      let (j, f, there, compatible) = next_edge in
+      let fits = beside before mode e f compatible in
+      (j, f, there, fits.0, fits.1)
 
   -- and the one before
-  leader : (j : ℕ) × (f : Edge) × (slice_get cycle j ≡ Some f) × (f.wanted ≡ e.held) × (f.thread ≢ e.thread)
-  leader =
+  pub edge_before : (j : ℕ) × (f : Edge) × (slice_get cycle j ≡ Some f) × (is_compatible before mode f e ≡ true)
+  edge_before =
       let n = length cycle in
       let below = slice_get_within cycle k e at in
       let j = place_after n k (n - 1) in
       let f = element_at cycle j (place_within n k (n - 1) below (omega arith)) in
       let whole : n - 1 + 1 ≡ n = omega (arith, is.two_or_more) in
       let next : following n j ≡ k = place_follows n k (n - 1) below (omega (arith, is.two_or_more)) ∙ ap (place_after n k) whole ∙ place_round n k below in
-      let fits = beside before mode f.0 e (compatible_round before mode len cycle is j f.0 e f.1 (ap (slice_get cycle) next ∙ at)) in
-      (j, f.0, f.1, fits.0, fits.1)
+      (j, f.0, f.1, compatible_round before mode len cycle is j f.0 e f.1 (ap (slice_get cycle) next ∙ at))
+
+  leader : (j : ℕ) × (f : Edge) × (slice_get cycle j ≡ Some f) × (f.wanted ≡ e.held) × (f.thread ≢ e.thread)
+  leader =
+      let (j, f, there, compatible) = edge_before in
+      let fits = beside before mode f e compatible in
+      (j, f, there, fits.0, fits.1)
 
 -- users of the kept edges are users of the edges of cycles
 pub knows_cycles : (s : Sought) (side : Side) (kept : List Bool) (n : ℕ) (users : Users) → KeepsSought s kept → length s.table.now ≤ n → AreUsers side (edges_of_table s.table.now) kept n users → KnowsCycles s side users

@@ -1,5 +1,5 @@
 -- Going round a loop, a number that never falls stays the same.
-use Rattle.std.proofs.Common.{◌≡◌, ℕ, ◌+◌, ◌<◌, ◌≤◌, Bool, true, false, List, [], ◌∷◌, ◌++◌, length, map, take, get_or, sym, ap, subst, ◌∙◌, arith, inl, inr}
+use Rattle.std.proofs.Common.{◌≡◌, ◌≢◌, ℕ, ◌+◌, ◌<◌, ◌≤◌, Bool, true, false, List, [], ◌∷◌, ◌++◌, length, map, take, get_or, sym, ap, subst, ◌∙◌, arith, inl, inr}
 use Rattle.std.specs.Prelude.{slice_get, All, Contains}
 use Rattle.std.proofs.lemmas.Bool.{eq-eqb, and_parts, false≢true}
 use Rattle.std.proofs.lemmas.List.Elements.{All-get_or, All-head, All-tail, All-weaker, All-contains, All-contains_itself, All-push}
@@ -99,6 +99,10 @@ module _ (rank : ℕ → LockMode → ℕ) where
 
   abbrev falls_not : Edge → Type 0
   falls_not e = held_rank rank e ≤ wanted_rank rank e
+
+  -- an edge that isn't level is on no loop of edges along which the rank doesn't fall
+  pub uneven_off : (loop : List Edge) (e : Edge) → lead_on loop ≡ true → leads_back loop ≡ true → All falls_not loop → held_rank rank e ≢ wanted_rank rank e → ¬ Contains loop e
+  uneven_off loop e leads back up uneven among = uneven (round (held_rank rank) (wanted_rank rank) least_next loop e leads back up among)
 
   -- flags of the level edges leave out only edges that lie on no loop
   pub level_keeps : (edges : List Edge) (flags : List Bool) → NoneFalls rank edges → flags ≡ map (is_level rank) edges → KeepsLoops edges flags

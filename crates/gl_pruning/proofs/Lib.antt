@@ -8,4 +8,5 @@ pub mod ByKinds
 pub mod Closing
 pub mod Fewer
 pub mod OfOneKind
+pub mod Partnered
 pub mod NotLonger

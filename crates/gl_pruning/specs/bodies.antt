@@ -5,6 +5,7 @@ pub mod Gaps
 pub mod Kinds
 pub mod Loops
 pub mod Numbers
+pub mod Partners
 pub mod Ranks
 pub mod Turns
 pub mod Users

@@ -30,6 +30,7 @@ mod models;
 mod no_way;
 mod numbers;
 mod parallel;
+mod partners;
 mod parts;
 mod prints;
 mod ranks;

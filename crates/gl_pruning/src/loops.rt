@@ -1,11 +1,13 @@
 //! Which edges may lie on a loop.
-ghost use Rattle.std.specs.Prelude.{◌≡◌, IfOk, IfSome, IfNone, map};
+ghost use Rattle.std.specs.Prelude.{◌≡◌, ◌<◌, length, IsTrue, IfOk, IfSome, IfNone, OnOk, map};
 ghost use Rattle.gl_filters.specs.Picked.{edges_of_table};
 ghost use Rattle.gl_pruning.specs.Loops.{KeepsLoops};
-ghost use Rattle.gl_pruning.specs.bodies.Loops.{NoneFalls, is_level};
+ghost use Rattle.gl_pruning.specs.Sought.{KeepsSought, GoesOnSeeking};
+ghost use Rattle.gl_pruning.specs.bodies.Loops.{NoneFalls, NoneFallsAmong, is_level};
 ghost use Rattle.gl_pruning.specs.bodies.Ranks.{rank_in};
 
 use crate::ranks::{Ranks, ranks_of};
+use crate::sought::Sought;
 use gl_edges::{Edge, Sample};
 use gl_event::Memory;
 use std::alloc::Global;
@@ -20,7 +22,7 @@ use std::alloc::Global;
 pub fn edges_on_loops(alloc: Global, table: &[(Edge, Sample)]) -> Result<Vec<bool>, Memory>
     ensures { IfOk result (λ kept. KeepsLoops (edges_of_table table.now) kept.items) }
 {
-    let ranks = ranks_of(alloc, table)?;
+    let ranks = ranks_of(alloc, table, &[])?;
     match level_edges(alloc, table, &ranks)? {
         Some(level) => Ok(level),
         None => all_edges(alloc, table),
@@ -63,4 +65,59 @@ fn all_edges(alloc: Global, table: &[(Edge, Sample)]) -> Result<Vec<bool>, Memor
 {
     let kept = vec![in alloc; true; table.len()]?;
     Ok(kept)
+}
+
+impl Sought<'_> {
+    // Whether no edge that is kept waits for one of a lower rank.
+    fn none_falls(&self, ranks: &Ranks, kept: &[bool]) -> bool
+        requires { length kept.now ≡ length self.now.table.now }
+        ensures { IsTrue result
+            → NoneFallsAmong (rank_in ranks.now) (edges_of_table self.now.table.now) kept.now }
+    {
+        for i in 0..self.table.len() {
+            let edge = &self.table[i].0;
+            let held = ranks.rank(edge.held, edge.held_mode);
+            let wanted = ranks.least(edge.wanted, edge.wanted_mode);
+            if kept[i] && held > wanted {
+                return false;
+            }
+        }
+        true
+    }
+
+    // Leaves out the edge at a position, if it waits for one of a higher rank, where none waits for one of a lower rank.
+    fn leave_out_if_rising(&self, ranks: &Ranks, kept: &mut Vec<bool>, i: usize)
+        requires there { i < length self.now.table.now }
+        requires kept { KeepsSought self.now kept.old.items }
+        requires certified { NoneFallsAmong (rank_in ranks.now) (edges_of_table self.now.table.now)
+            kept.old.items }
+        ensures { GoesOnSeeking self.now kept.old.items kept.new.items }
+    {
+        let edge = &self.table[i].0;
+        let held = ranks.rank(edge.held, edge.held_mode);
+        let wanted = ranks.least(edge.wanted, edge.wanted_mode);
+        if held != wanted {
+            kept[i] = false;
+        }
+    }
+
+    /// Leaves out edges that lie on no loop of those that are kept. What it takes is that of [`edges_on_loops`], and as many
+    /// look-ups once more.
+    pub(crate) fn leave_out_off_loops(
+        &self,
+        alloc: Global,
+        kept: &mut Vec<bool>,
+    ) -> Result<(), Memory>
+        requires { KeepsSought self.now kept.old.items }
+        ensures { OnOk result (GoesOnSeeking self.now kept.old.items kept.new.items) }
+    {
+        let ranks = ranks_of(alloc, self.table, kept)?;
+        if !self.none_falls(&ranks, kept) {
+            return Ok(());
+        }
+        for i in 0..self.table.len() {
+            self.leave_out_if_rising(&ranks, kept, i);
+        }
+        Ok(())
+    }
 }

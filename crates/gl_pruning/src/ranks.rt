@@ -58,12 +58,16 @@ impl Ranks {
     }
 }
 
-/// The ranks for a table. Two look-ups for each edge, two for each lock, and one step of two walks for each edge, or two
-/// where there are readers.
-pub(crate) fn ranks_of(alloc: Global, table: &[(Edge, Sample)]) -> Result<Ranks, Memory> {
+/// The ranks for the edges of a table that are kept: those that have no flag, or whose flag is set. Two look-ups for each
+/// edge, two for each lock, and one step of two walks for each edge, or two where there are readers.
+pub(crate) fn ranks_of(
+    alloc: Global,
+    table: &[(Edge, Sample)],
+    kept: &[bool],
+) -> Result<Ranks, Memory> {
     let mut numbers = HashMap::new(alloc);
     let has_readers = has_readers(table);
-    let steps = number_locks(alloc, table, has_readers, &mut numbers)?;
+    let steps = number_locks(alloc, table, kept, has_readers, &mut numbers)?;
     let found = components(alloc, place_of(numbers.len(), LockMode::Exclusive), &steps)?;
     let shared = if has_readers {
         Some(ranked(alloc, &numbers, LockMode::Shared, &found)?)
@@ -93,15 +97,19 @@ fn place_of(number: usize, mode: LockMode) -> usize {
     }
 }
 
-// Numbers the locks from 0, and gives the steps from holders to those for whom they wait.
+// Numbers the locks of the edges that are kept from 0, and gives the steps from holders to those for whom they wait.
 fn number_locks(
     alloc: Global,
     table: &[(Edge, Sample)],
+    kept: &[bool],
     has_readers: bool,
     numbers: &mut HashMap<LockId, usize>,
 ) -> Result<Vec<Step>, Memory> {
     let mut steps = Vec::new(alloc);
-    for (edge, _) in table {
+    for (i, (edge, _)) in table.iter().enumerate() {
+        if kept.get(i) == Some(&false) {
+            continue;
+        }
         let from = place_of(number_of(numbers, edge.held)?, edge.held_mode);
         let wanted = number_of(numbers, edge.wanted)?;
         add_step(&mut steps, from, place_of(wanted, LockMode::Exclusive))?;

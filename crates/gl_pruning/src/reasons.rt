@@ -2,14 +2,14 @@
 //!
 //! The edges that lie on no loop are the first, since they are soon found, and then those that are alone
 //! among edges of their own thread. The others are left out for one reason after the other, the cheaper ones
-//! first: by kind, since there may be many edges of each kind; those that have no way back; by kind and
-//! thread; and single ones by their segments.
+//! first: those beside which none may stand; by kind, since there may be many edges of each kind; those that have
+//! no way back; by kind and thread; and single ones by their segments. Where some are, others may lie on no loop any more.
 ghost use Rattle.std.specs.Prelude.{◌≡◌, ◌∷◌, [], IfOk, OnOk, count_by};
 ghost use Rattle.gl_filters.specs.Picked.{edges_of_table};
 ghost use Rattle.gl_pruning.specs.Alone.{LeavesOutAlone};
 ghost use Rattle.gl_pruning.specs.Sought.{KeepsSought, GoesOnSeeking};
 ghost use Rattle.gl_pruning.specs.declared.grains.Grain.TheVariants.{ByKind, ByThread, BySegment};
-ghost use Rattle.gl_pruning.specs.declared.reasons.Reason.TheVariants.{Alike, NoWay};
+ghost use Rattle.gl_pruning.specs.declared.reasons.Reason.TheVariants.{Alike, NoWay, Stuck};
 
 use crate::grains::Grain;
 use crate::loops::edges_on_loops;
@@ -21,9 +21,17 @@ use std::alloc::Global;
 /// All the effort that a reason makes at most.
 pub const ALL_EFFORT: usize = usize::MAX;
 
+// How many times edges beside which none may stand are left out, as long as there are any.
+const TURNS: usize = 4;
+
+// How many edges are looked at for the effort of one: most have one beside them that is soon found.
+const LOOKS: usize = 8;
+
 /// Why edges are left out.
 #[derive(Clone, Copy, Debug)]
 pub(crate) enum Reason {
+    // none may follow them, or none may lead them
+    Stuck,
     // none of a cycle is alike to them
     Alike(Grain),
     // they have no way back
@@ -31,10 +39,11 @@ pub(crate) enum Reason {
 }
 
 /// The reasons, in their order.
-pub(crate) fn reasons() -> [Reason; 4]
-    ensures { result ≡ Alike ByKind ∷ NoWay ∷ Alike ByThread ∷ Alike BySegment ∷ [] }
+pub(crate) fn reasons() -> [Reason; 5]
+    ensures { result ≡ Stuck ∷ Alike ByKind ∷ NoWay ∷ Alike ByThread ∷ Alike BySegment ∷ [] }
 {
     [
+        Reason::Stuck,
         Reason::Alike(Grain::ByKind),
         Reason::NoWay,
         Reason::Alike(Grain::ByThread),
@@ -84,9 +93,9 @@ impl Sought<'_> {
         Ok(())
     }
 
-    // Leaves out edges for a reason, and once more where that left out some: the same effort gets further then. All
-    // the effort isn't made twice.
-    fn leave_out_again(
+    // Leaves out edges for a reason, and then those that lie on no loop any more; and once more where that left out some:
+    // the same effort gets further then. All the effort isn't made twice.
+    pub(crate) fn leave_out_again(
         &self,
         alloc: Global,
         reason: Reason,
@@ -99,10 +108,37 @@ impl Sought<'_> {
         let part = Part::whole().within(effort);
         let before = count_set(kept);
         self.leave_out(alloc, reason, part, kept)?;
-        if effort == ALL_EFFORT || count_set(kept) == before {
+        if count_set(kept) == before {
+            return Ok(());
+        }
+        self.leave_out_off_loops(alloc, kept)?;
+        if effort == ALL_EFFORT {
             return Ok(());
         }
         self.leave_out(alloc, reason, part, kept)
+    }
+
+    // Leaves out edges beside which none may stand, and then those that lie on no loop any more, a few times while there are
+    // any.
+    fn leave_out_stuck_in_turns(
+        &self,
+        alloc: Global,
+        effort: usize,
+        kept: &mut Vec<bool>,
+    ) -> Result<(), Memory>
+        requires { KeepsSought self.now kept.old.items }
+        ensures { OnOk result (GoesOnSeeking self.now kept.old.items kept.new.items) }
+    {
+        let looks = effort.saturating_mul(LOOKS);
+        for _turn in 0..TURNS {
+            let before = count_set(kept);
+            self.leave_out_stuck(alloc, looks, kept)?;
+            if count_set(kept) == before {
+                return Ok(());
+            }
+            self.leave_out_off_loops(alloc, kept)?;
+        }
+        Ok(())
     }
 
     /// Leaves out edges of a part for a reason.
@@ -117,6 +153,7 @@ impl Sought<'_> {
         ensures { OnOk result (GoesOnSeeking self.now kept.old.items kept.new.items) }
     {
         match reason {
+            Reason::Stuck => self.leave_out_stuck_in_turns(alloc, part.share_of(ALL_EFFORT), kept),
             Reason::Alike(grain) => self.leave_out_alike(alloc, grain, part, kept),
             Reason::NoWay => self.leave_out_without_way(alloc, part, kept),
         }

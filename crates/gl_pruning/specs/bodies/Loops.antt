@@ -1,5 +1,5 @@
 -- Edges that may lie on a loop, by ranks of those who hold their locks.
-use Rattle.std.specs.Prelude.{ℕ, ◌≤◌, Bool, ◌==◌, List, All, min}
+use Rattle.std.specs.Prelude.{◌≡◌, ℕ, ◌≤◌, Bool, false, ◌==◌, List, All, Some, slice_get, min}
 use Rattle.gl_event.specs.declared.events.LockMode.{LockMode}
 use Rattle.gl_event.specs.declared.events.LockMode.TheVariants.{Exclusive, Shared}
 use Rattle.gl_edges.specs.declared.edge.Edge.{Edge}
@@ -19,6 +19,12 @@ wanted_rank rank e = least rank e.wanted e.wanted_mode
 -- no edge waits for one of a lower rank
 abbrev pub NoneFalls : (ℕ → LockMode → ℕ) → List Edge → Type 0
 NoneFalls rank edges = All (λ e. held_rank rank e ≤ wanted_rank rank e) edges
+
+-- no edge that isn't left out does
+abbrev pub NoneFallsAmong : (ℕ → LockMode → ℕ) → List Edge → List Bool → Type 0
+NoneFallsAmong rank edges kept =
+    (i : ℕ) (e : Edge) → slice_get edges i ≡ Some e → ¬ (slice_get kept i ≡ Some false)
+    → held_rank rank e ≤ wanted_rank rank e
 
 -- the edge waits for one of its own rank
 abbrev pub is_level : (ℕ → LockMode → ℕ) → Edge → Bool

@@ -1,0 +1,28 @@
+use Rattle.std.proofs.Common.{◌≡◌, ◌≤◌, length, Some, false, sym, ap, subst, ◌∙◌, arith}
+use Rattle.std.proofs.lemmas.List.{length-map}
+use Rattle.std.proofs.lemmas.Option.{slice_get-get_or, slice_get_within}
+use Rattle.gl_filters.specs.Picked.{edges_of_table}
+use Rattle.gl_pruning.specs.bodies.Loops.{held_rank, wanted_rank}
+use Rattle.gl_pruning.specs.bodies.Ranks.{rank_in}
+use Rattle.gl_pruning.proofs.ByKinds.{edge_is}
+use Rattle.gl_pruning.proofs.Off.{none_falls_more}
+use Rattle.gl_pruning.proofs.sought.Sought.none_falls.Goals as goal
+use Rattle.gl_pruning.proofs.sought.Sought.none_falls.Goals.{else-kept-i-via-then-kept-i+else-held-wanted, else-kept-i-via-else-kept-i}
+
+pub loop-i-preserved : goal.loop-i-preserved
+loop-i-preserved c =
+    let table = c.args.self.now.table.now in
+    let rank = rank_in c.args.ranks.now in
+    none_falls_more (edges_of_table table) c.args.kept.now rank c.loop-i.i c.loop-i.invariant
+    (λ e at stays.
+        let same = edge_is table c.index-self-i.result c.loop-i.i e c.loop-i-test.true at in
+        subst (λ d. held_rank rank d ≤ wanted_rank rank d) (sym same)
+        (elim c.else-kept-i.branch [
+          | else-kept-i-via-then-kept-i+else-held-wanted w ↦ omega (arith, w.if-held-wanted.false, c.rank-held.ensures, c.least-wanted.ensures)
+          | else-kept-i-via-else-kept-i w ↦ absurd (stays (slice_get-get_or c.args.kept.now c.loop-i.i false (omega (arith, c.loop-i-test.true, c.requires)) ∙ ap Some w.if-kept-i.false))
+        ]))
+
+pub returns : goal.returns
+returns c = λ _ i e at stays.
+    let table = c.args.self.now.table.now in
+    c.loop-i.invariant i e (omega (arith, c.loop-i-test.false, slice_get_within (edges_of_table table) i e at, length-map table (λ pair. pair.0))) at stays

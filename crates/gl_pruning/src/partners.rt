@@ -1,0 +1,198 @@
+//! Edges beside which no other one may stand in a cycle.
+//!
+//! Each edge of a cycle is followed by another one of it, and led by one. So where none of the edges that are kept may
+//! follow an edge, or none may lead it, it is in no cycle, and is left out; and then others may have none in turn.
+//!
+//! Which edge was found beside one is remembered: as long as that is kept, nothing is looked for. It isn't proved that it
+//! stands there, and nothing relies on it but for speed: such an edge stays.
+ghost use Rattle.std.specs.Prelude.{◌≡◌, ◌<◌, None, length, IsTrue, IfOk, OnOk};
+ghost use Rattle.gl_segments.specs.Clocks.{is_before};
+ghost use Rattle.gl_filters.specs.Picked.{edges_of_table};
+ghost use Rattle.gl_index.specs.Indexes.{AreChainedKept};
+ghost use Rattle.gl_index.specs.Sides.{opposite};
+ghost use Rattle.gl_trims.specs.Trims.{is_beside};
+ghost use Rattle.gl_edges.specs.declared.edge.Edge.{Edge};
+ghost use Rattle.gl_pruning.specs.Sought.{KeepsSought, GoesOnSeeking};
+ghost use Rattle.gl_pruning.specs.bodies.Flags.{TellsIfAny};
+ghost use Rattle.gl_pruning.specs.bodies.Partners.{LeadsThrough, NoneBeside};
+
+use crate::sought::Sought;
+use gl_edges::Edge;
+use gl_event::Memory;
+use gl_filters::compatible;
+use gl_index::{Chain, Side};
+use std::alloc::Global;
+
+// How many times all edges are looked at, as long as some are left out.
+const PASSES: usize = 64;
+
+// Where edges stand that may stand beside others, on one side of them.
+#[derive(Drop)]
+pub(crate) struct Partners {
+    // leads through the edges that share a lock
+    pub(crate) chain: Chain,
+    // for each position where an edge was found beside the one there
+    found: Vec<usize>,
+    // how many edges may still be looked at
+    looks: usize,
+}
+
+impl Partners {
+    // What is known before any edge was looked at.
+    fn of(
+        alloc: Global,
+        sought: &Sought<'_>,
+        side: Side,
+        looks: usize,
+        kept: &[bool],
+    ) -> Result<Partners, Memory>
+        ensures { IfOk result
+            (λ partners. AreChainedKept (opposite side) (edges_of_table sought.now.table.now)
+            kept.now 0 partners.chain) }
+    {
+        let chain = Chain::of_kept(alloc, sought.table, side.opposite(), kept)?;
+        let found = vec![in alloc; usize::MAX; sought.table.len()]?;
+        Ok(Partners {
+            chain,
+            found,
+            looks,
+        })
+    }
+
+    // Whether the edge that was found beside the one at a position is kept.
+    fn has_kept(&self, kept: &[bool], x: usize) -> bool {
+        match self.found.get(x) {
+            Some(&other) => kept.get(other) == Some(&true),
+            None => false,
+        }
+    }
+
+    // Remembers which edge was found beside the one at a position.
+    fn remember(&mut self, x: usize, other: usize)
+        ensures { self.new.chain ≡ self.old.chain }
+    {
+        if let Some(found) = self.found.get_mut(x) {
+            *found = other;
+        }
+    }
+}
+
+impl Sought<'_> {
+    // Whether the second edge may stand on this side of the first one.
+    fn stands_beside(&self, side: Side, edge: &Edge, other: &Edge) -> bool
+        ensures { result
+            ≡ is_beside (is_before self.now.order.now) self.now.mode side edge.now other.now }
+    {
+        match side {
+            Side::Follower => compatible(self.mode, self.order, edge, other),
+            Side::Leader => compatible(self.mode, self.order, other, edge),
+        }
+    }
+
+    // The first position of an edge that is kept and may stand beside the one at x; or where no more may be looked at,
+    // that of the next one that may be.
+    fn next_beside(
+        &self,
+        chain: &Chain,
+        kept: &[bool],
+        side: Side,
+        looks: &mut usize,
+        x: usize,
+    ) -> Option<usize>
+        requires there { x < length self.now.table.now }
+        requires flags { length kept.now ≡ length self.now.table.now }
+        requires chain { LeadsThrough side (edges_of_table self.now.table.now) kept.now chain.now }
+        ensures { result ≡ None
+            → NoneBeside (is_before self.now.order.now) self.now.mode
+            (edges_of_table self.now.table.now) kept.now side x (length self.now.table.now) }
+    {
+        let edge = &self.table[x].0;
+        let mut next = chain.begin(side.lock_of(edge));
+        while let Some(other) = next {
+            if *looks == 0 {
+                return Some(other);
+            }
+            *looks -= 1;
+            if kept[other] && self.stands_beside(side, edge, &self.table[other].0) {
+                return Some(other);
+            }
+            next = chain.after(other);
+        }
+        None
+    }
+
+    // Leaves out the edge at a position, if it is kept and none may stand on this side of it. Whether it was left out.
+    fn leave_out_if_stuck(
+        &self,
+        partners: &mut Partners,
+        side: Side,
+        kept: &mut Vec<bool>,
+        x: usize,
+    ) -> bool
+        requires there { x < length self.now.table.now }
+        requires kept { KeepsSought self.now kept.old.items }
+        requires chain { LeadsThrough side (edges_of_table self.now.table.now) kept.old.items
+            partners.old.chain }
+        ensures goes_on { GoesOnSeeking self.now kept.old.items kept.new.items }
+        ensures any { TellsIfAny result kept.old.items kept.new.items }
+        ensures chain { partners.new.chain ≡ partners.old.chain }
+    {
+        if !kept[x] || partners.has_kept(kept, x) {
+            return false;
+        }
+        match self.next_beside(&partners.chain, kept, side, &mut partners.looks, x) {
+            Some(other) => {
+                partners.remember(x, other);
+                false
+            }
+            None => {
+                kept[x] = false;
+                true
+            }
+        }
+    }
+
+    // Leaves out each edge that none may stand beside on this side. Whether any was left out.
+    fn leave_out_each_stuck(
+        &self,
+        partners: &mut Partners,
+        side: Side,
+        kept: &mut Vec<bool>,
+    ) -> bool
+        requires kept { KeepsSought self.now kept.old.items }
+        requires chain { LeadsThrough side (edges_of_table self.now.table.now) kept.old.items
+            partners.old.chain }
+        ensures goes_on { GoesOnSeeking self.now kept.old.items kept.new.items }
+        ensures any { TellsIfAny result kept.old.items kept.new.items }
+        ensures chain { partners.new.chain ≡ partners.old.chain }
+    {
+        let mut has_changed = false;
+        for x in 0..self.table.len() {
+            has_changed |= self.leave_out_if_stuck(partners, side, kept, x);
+        }
+        has_changed
+    }
+
+    /// Leaves out edges that none may follow, or none may lead, as long as there are any. No more than twice so many edges
+    /// are looked at.
+    pub(crate) fn leave_out_stuck(
+        &self,
+        alloc: Global,
+        looks: usize,
+        kept: &mut Vec<bool>,
+    ) -> Result<(), Memory>
+        requires { KeepsSought self.now kept.old.items }
+        ensures { OnOk result (GoesOnSeeking self.now kept.old.items kept.new.items) }
+    {
+        let mut followers = Partners::of(alloc, self, Side::Follower, looks, kept)?;
+        let mut leaders = Partners::of(alloc, self, Side::Leader, looks, kept)?;
+        for _pass in 0..PASSES {
+            let some_unfollowed = self.leave_out_each_stuck(&mut followers, Side::Follower, kept);
+            let some_unled = self.leave_out_each_stuck(&mut leaders, Side::Leader, kept);
+            if !some_unfollowed && !some_unled {
+                return Ok(());
+            }
+        }
+        Ok(())
+    }
+}
