@@ -1,6 +1,6 @@
 -- An edge beside which none may stand is in no cycle.
 use Rattle.std.proofs.Common.{◌≡◌, ℕ, ◌+◌, ◌<◌, ◌≤◌, Bool, true, false, List, length, Option, Some, None, sym, ap, subst, ◌∙◌, arith, inl, inr}
-use Rattle.std.specs.Prelude.{slice_get, unwrap_or, IfSome, Contains}
+use Rattle.std.specs.Prelude.{slice_get, unwrap_or, IfSome}
 use Rattle.std.proofs.lemmas.Bool.{cases_eq, false≢true, cases_lt, false_from_ne_true}
 use Rattle.std.proofs.lemmas.Option.{slice_get-get_or, slice_get_within, same_Some}
 use Rattle.gl_event.specs.declared.events.Segment.{Segment}
@@ -10,11 +10,10 @@ use Rattle.gl_index.specs.declared.sides.Side.{Side}
 use Rattle.gl_index.specs.declared.sides.Side.TheVariants.{Follower, Leader}
 use Rattle.gl_index.specs.Listed.{IsNextWith}
 use Rattle.gl_index.specs.Sides.{opposite, lock_towards}
-use Rattle.gl_index.specs.declared.chains.Chain.{Chain}
 use Rattle.gl_trims.specs.Trims.{is_beside}
 use Rattle.gl_pruning.specs.OffCycles.{IsOffCycles, KeepsCycles}
 use Rattle.gl_pruning.specs.Sought.{StayLeftOut}
-use Rattle.gl_pruning.specs.bodies.Partners.{LeadsThrough, NoneBeside, IsNextBeside}
+use Rattle.gl_pruning.specs.bodies.Partners.{NoneBeside, IsNextBeside}
 use Rattle.gl_pruning.proofs.Apart.{beside, next_edge, edge_before}
 use Rattle.gl_pruning.proofs.Back.{kept_at}
 
@@ -22,11 +21,6 @@ use Rattle.gl_pruning.proofs.Back.{kept_at}
 shares_lock : (before : Segment → Segment → Bool) (mode : Mode) (side : Side) (e f : Edge) → is_beside before mode side e f ≡ true → lock_towards (opposite side) f ≡ lock_towards side e
 shares_lock before mode Follower e f fits = sym (beside before mode e f fits).0
 shares_lock before mode Leader e f fits = (beside before mode f e fits).0
-
--- a chain leads through what is kept later, too
-pub leads_later : (side : Side) (edges : List Edge) (now after : List Bool) (chain other : Chain) → other ≡ chain → StayLeftOut now after → LeadsThrough side edges now chain → LeadsThrough side edges after other
-leads_later side edges now after chain other same stay (before, are, was) =
-    subst (LeadsThrough side edges after) (sym same) (before, are, (λ i out. stay i (was i out)))
 
 module _ (before : Segment → Segment → Bool) (mode : Mode) (edges : List Edge) (kept : List Bool) (side : Side) where
   module _ (then : List Bool) (stay : StayLeftOut then kept) where

@@ -17,13 +17,17 @@ ghost use Rattle.gl_pruning.specs.bodies.Exclusions.{IsExcluded, IsOneOf, HaveAl
 
 use crate::sought::Sought;
 use crate::turns::{Turn, chain_of};
-use gl_edges::Edge;
+use gl_edges::{Edge, Sample};
 use gl_event::{LockId, LockMode, Memory};
 use gl_filters::Mode;
 use std::alloc::Global;
 
-// At so many edges, or at all where there are fewer, it is looked at which of those that are left an exclusion has.
+// At so many of the edges that are left, or at all where there are fewer, it is looked at which an exclusion has.
 const LOOKS: usize = 500;
+
+// How far these lie apart, round: the edges of threads that run the same code come in one order again and again, and this is a
+// prime number, so that all of them have their turn.
+const STRIDE: usize = 2_654_435_761;
 
 /// Edges of which no two stand in a cycle together.
 #[derive(Clone, Copy, Debug)]
@@ -198,29 +202,27 @@ impl<'a> Sought<'a> {
         let mut left = Vec::from_slice(alloc, kept)?;
         let mut found = Vec::new(alloc);
         for _ in 0..self.len {
-            let Some(first) = left.iter().position(|&is_left| is_left) else {
-                return Ok(found);
-            };
-            let Some((edge, _)) = self.table.get(first) else {
+            let places = places_of(alloc, &left)?;
+            let Some((edge, _)) = self.edge_at(places.get(0)) else {
                 return Ok(found);
             };
             let Some(chain) = chain_of(turns, edge.thread) else {
                 return Ok(found);
             };
-            let exclusion = self.widest(turns, chain, edge, &left);
+            let exclusion = self.widest(turns, chain, edge, &places);
             self.take_away(turns, &exclusion, &mut left);
             found.push(exclusion)?;
         }
         Ok(found)
     }
 
-    // The edge's chain, or the lock that the edge is made under, where that has more of some of the edges that are left.
-    fn widest(&self, turns: &[Turn], chain: usize, edge: &Edge, left: &[bool]) -> Exclusion {
+    // The edge's chain, or the lock that the edge is made under, where that has more of some of the edges at these places.
+    fn widest(&self, turns: &[Turn], chain: usize, edge: &Edge, places: &[usize]) -> Exclusion {
         let mut widest = Exclusion::InTurn(chain);
-        let mut most = self.count(turns, &widest, left);
+        let mut most = self.count(turns, &widest, places);
         for guard in edge.guards.as_slice() {
             let under = Exclusion::UnderLock(guard.lock);
-            let count = self.count(turns, &under, left);
+            let count = self.count(turns, &under, places);
             if count > most {
                 most = count;
                 widest = under;
@@ -229,30 +231,28 @@ impl<'a> Sought<'a> {
         widest
     }
 
-    // How many of some of the edges that are left an exclusion has.
-    fn count(&self, turns: &[Turn], exclusion: &Exclusion, left: &[bool]) -> usize {
+    // How many of some of the edges at these places an exclusion has.
+    fn count(&self, turns: &[Turn], exclusion: &Exclusion, places: &[usize]) -> usize {
         let mut count: usize = 0;
         for look in 0..LOOKS {
-            let position = look.saturating_mul(self.table.len()) / LOOKS;
-            if self.is_left_of(turns, exclusion, left, position) {
+            if self.has_at(turns, exclusion, looked_at(places, look)) {
                 count = count.saturating_add(1);
             }
         }
         count
     }
 
-    // Whether the edge at a position is left and the exclusion has it.
-    fn is_left_of(
-        &self,
-        turns: &[Turn],
-        exclusion: &Exclusion,
-        left: &[bool],
-        position: usize,
-    ) -> bool {
-        if left.get(position) != Some(&true) {
-            return false;
+    // The edge at a place.
+    fn edge_at(&self, place: Option<&usize>) -> Option<&(Edge, Sample)> {
+        match place {
+            Some(&place) => self.table.get(place),
+            None => None,
         }
-        match self.table.get(position) {
+    }
+
+    // Whether an exclusion has the edge at a place.
+    fn has_at(&self, turns: &[Turn], exclusion: &Exclusion, place: Option<&usize>) -> bool {
+        match self.edge_at(place) {
             Some((edge, _)) => exclusion.has(self.mode, turns, edge),
             None => false,
         }
@@ -260,13 +260,29 @@ impl<'a> Sought<'a> {
 
     // Takes away the edges that an exclusion has.
     fn take_away(&self, turns: &[Turn], exclusion: &Exclusion, left: &mut Vec<bool>) {
-        for position in 0..left.len() {
-            if !self.is_left_of(turns, exclusion, left, position) {
-                continue;
-            }
-            if let Some(is_left) = left.get_mut(position) {
+        for (place, is_left) in left.iter_mut().enumerate() {
+            if *is_left && self.has_at(turns, exclusion, Some(&place)) {
                 *is_left = false;
             }
         }
     }
+}
+
+// The places of the edges that are left.
+fn places_of(alloc: Global, left: &[bool]) -> Result<Vec<usize>, Memory> {
+    let mut places = Vec::new(alloc);
+    for (place, &is_left) in left.iter().enumerate() {
+        if is_left {
+            places.push(place)?;
+        }
+    }
+    Ok(places)
+}
+
+// Which of these places is looked at the n-th time: all in turn, where there are few.
+fn looked_at(places: &[usize], n: usize) -> Option<&usize> {
+    if places.len() <= LOOKS {
+        return places.get(n);
+    }
+    places.get(n.wrapping_mul(STRIDE) % places.len())
 }

@@ -33,30 +33,18 @@ pub(crate) struct Partners {
     pub(crate) chain: Chain,
     // for each position where an edge was found beside the one there
     found: Vec<usize>,
-    // how many edges may still be looked at
-    looks: usize,
 }
 
 impl Partners {
     // What is known before any edge was looked at.
-    fn of(
-        alloc: Global,
-        sought: &Sought<'_>,
-        side: Side,
-        looks: usize,
-        kept: &[bool],
-    ) -> Result<Partners, Memory>
+    fn of(alloc: Global, sought: &Sought<'_>, side: Side, kept: &[bool]) -> Result<Partners, Memory>
         ensures { IfOk result
             (λ partners. AreChainedKept (opposite side) (edges_of_table sought.now.table.now)
             kept.now 0 partners.chain) }
     {
         let chain = Chain::of_kept(alloc, sought.table, side.opposite(), kept)?;
         let found = vec![in alloc; usize::MAX; sought.table.len()]?;
-        Ok(Partners {
-            chain,
-            found,
-            looks,
-        })
+        Ok(Partners { chain, found })
     }
 
     // Whether the edge that was found beside the one at a position is kept.
@@ -126,6 +114,7 @@ impl Sought<'_> {
         &self,
         partners: &mut Partners,
         side: Side,
+        looks: &mut usize,
         kept: &mut Vec<bool>,
         x: usize,
     ) -> bool
@@ -140,7 +129,7 @@ impl Sought<'_> {
         if !kept[x] || partners.has_kept(kept, x) {
             return false;
         }
-        match self.next_beside(&partners.chain, kept, side, &mut partners.looks, x) {
+        match self.next_beside(&partners.chain, kept, side, looks, x) {
             Some(other) => {
                 partners.remember(x, other);
                 false
@@ -157,6 +146,7 @@ impl Sought<'_> {
         &self,
         partners: &mut Partners,
         side: Side,
+        looks: &mut usize,
         kept: &mut Vec<bool>,
     ) -> bool
         requires kept { KeepsSought self.now kept.old.items }
@@ -168,27 +158,32 @@ impl Sought<'_> {
     {
         let mut has_changed = false;
         for x in 0..self.table.len() {
-            has_changed |= self.leave_out_if_stuck(partners, side, kept, x);
+            has_changed |= self.leave_out_if_stuck(partners, side, looks, kept, x);
         }
         has_changed
     }
 
-    /// Leaves out edges that none may follow, or none may lead, as long as there are any. No more than twice so many edges
-    /// are looked at.
+    /// Leaves out edges that none may follow, or none may lead, as long as there are any and so many may still be looked
+    /// at.
     pub(crate) fn leave_out_stuck(
         &self,
         alloc: Global,
-        looks: usize,
+        looks: &mut usize,
         kept: &mut Vec<bool>,
     ) -> Result<(), Memory>
         requires { KeepsSought self.now kept.old.items }
         ensures { OnOk result (GoesOnSeeking self.now kept.old.items kept.new.items) }
     {
-        let mut followers = Partners::of(alloc, self, Side::Follower, looks, kept)?;
-        let mut leaders = Partners::of(alloc, self, Side::Leader, looks, kept)?;
+        let mut followers = Partners::of(alloc, self, Side::Follower, kept)?;
+        let mut leaders = Partners::of(alloc, self, Side::Leader, kept)?;
         for _pass in 0..PASSES {
-            let some_unfollowed = self.leave_out_each_stuck(&mut followers, Side::Follower, kept);
-            let some_unled = self.leave_out_each_stuck(&mut leaders, Side::Leader, kept);
+            let some_unfollowed = self.leave_out_each_stuck(
+                &mut followers,
+                Side::Follower,
+                looks,
+                kept,
+            );
+            let some_unled = self.leave_out_each_stuck(&mut leaders, Side::Leader, looks, kept);
             if !some_unfollowed && !some_unled {
                 return Ok(());
             }

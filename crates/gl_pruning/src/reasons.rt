@@ -24,8 +24,11 @@ pub const ALL_EFFORT: usize = usize::MAX;
 // How many times edges beside which none may stand are left out, as long as there are any.
 const TURNS: usize = 4;
 
-// How many edges are looked at for the effort of one: most have one beside them that is soon found.
-const LOOKS: usize = 8;
+// How many edges are looked at for the effort of one.
+const LOOKS: usize = 4;
+
+// How many are at most.
+const MOST_LOOKS: usize = 100_000_000;
 
 /// Why edges are left out.
 #[derive(Clone, Copy, Debug)]
@@ -40,7 +43,8 @@ pub(crate) enum Reason {
 
 /// The reasons, in their order.
 pub(crate) fn reasons() -> [Reason; 5]
-    ensures { result ≡ Stuck ∷ Alike ByKind ∷ NoWay ∷ Alike ByThread ∷ Alike BySegment ∷ [] }
+    ensures { result
+        ≡ Stuck ∷ Alike ByKind ∷ NoWay ∷ Alike ByThread ∷ Alike BySegment ∷ [] }
 {
     [
         Reason::Stuck,
@@ -129,10 +133,10 @@ impl Sought<'_> {
         requires { KeepsSought self.now kept.old.items }
         ensures { OnOk result (GoesOnSeeking self.now kept.old.items kept.new.items) }
     {
-        let looks = effort.saturating_mul(LOOKS);
+        let mut looks = effort.saturating_mul(LOOKS).min(MOST_LOOKS);
         for _turn in 0..TURNS {
             let before = count_set(kept);
-            self.leave_out_stuck(alloc, looks, kept)?;
+            self.leave_out_stuck(alloc, &mut looks, kept)?;
             if count_set(kept) == before {
                 return Ok(());
             }

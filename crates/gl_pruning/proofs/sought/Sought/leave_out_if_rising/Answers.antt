@@ -1,4 +1,4 @@
-use Rattle.std.proofs.Common.{◌≡◌, ◌<◌, length, ap, arith, ◌∙◌, sym}
+use Rattle.std.proofs.Common.{◌<◌, length, ap, arith, ◌∙◌, sym}
 use Rattle.std.proofs.lemmas.List.{length-map}
 use Rattle.gl_segments.specs.Clocks.{is_before}
 use Rattle.gl_filters.specs.Picked.{edges_of_table}
@@ -19,9 +19,9 @@ returns-then-held-wanted c =
     let within : c.args.i < length kept = omega (arith, c.requires.there, c.requires.kept.long, length-map s.table.now (λ pair. pair.0)) in
     record {
       keeps = keeps_more (is_before s.order.now) s.mode s.len edges kept c.requires.kept c.args.i within
-      (λ e at. rising_off (is_before s.order.now) s.mode s.len edges kept rank c.requires.kept c.requires.certified e
+          (λ e at. rising_off (is_before s.order.now) s.mode s.len edges kept rank c.requires.kept c.requires.certified e
           (λ same.
-              let is = edge_is s.table.now c.index-self-i.result c.args.i e c.requires.there at in
-              c.if-held-wanted.true (c.rank-held.ensures ∙ ap (held_rank rank) (sym is) ∙ same ∙ ap (wanted_rank rank) is ∙ sym c.least-wanted.ensures)));
+          let is = edge_is s.table.now c.index-self-i.result c.args.i e c.requires.there at in
+          c.if-held-wanted.true (c.rank-held.ensures ∙ ap (held_rank rank) (sym is) ∙ same ∙ ap (wanted_rank rank) is ∙ sym c.least-wanted.ensures)));
       stay = stay_out_at kept c.args.i within;
     }

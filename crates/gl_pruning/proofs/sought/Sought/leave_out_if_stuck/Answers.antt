@@ -17,7 +17,7 @@ returns-in-None-clause-goes_on c =
     let within : c.args.x < length kept = omega (arith, c.requires.there, c.requires.kept.long, length-map s.table.now (λ pair. pair.0)) in
     record {
       keeps = keeps_more (is_before s.order.now) s.mode s.len edges kept c.requires.kept c.args.x within
-      (λ e at. off_stuck (is_before s.order.now) s.mode s.len edges kept c.requires.kept c.args.side c.args.x (length s.table.now) e all at (rw c.deref-2.ensures.value at c.next_beside.ensures c.in-None.is));
+          (λ e at. off_stuck (is_before s.order.now) s.mode s.len edges kept c.requires.kept c.args.side c.args.x (length s.table.now) e all at (rw c.deref-2.ensures.value at c.next_beside.ensures c.in-None.is));
       stay = stay_out_at kept c.args.x within;
     }
 

@@ -1,4 +1,4 @@
-use Rattle.std.proofs.Common.{◌≡◌, ◌≤◌, length, Some, false, sym, ap, subst, ◌∙◌, arith}
+use Rattle.std.proofs.Common.{◌≤◌, Some, false, sym, ap, subst, ◌∙◌, arith}
 use Rattle.std.proofs.lemmas.List.{length-map}
 use Rattle.std.proofs.lemmas.Option.{slice_get-get_or, slice_get_within}
 use Rattle.gl_filters.specs.Picked.{edges_of_table}
@@ -15,12 +15,12 @@ loop-i-preserved c =
     let rank = rank_in c.args.ranks.now in
     none_falls_more (edges_of_table table) c.args.kept.now rank c.loop-i.i c.loop-i.invariant
     (λ e at stays.
-        let same = edge_is table c.index-self-i.result c.loop-i.i e c.loop-i-test.true at in
-        subst (λ d. held_rank rank d ≤ wanted_rank rank d) (sym same)
-        (elim c.else-kept-i.branch [
-          | else-kept-i-via-then-kept-i+else-held-wanted w ↦ omega (arith, w.if-held-wanted.false, c.rank-held.ensures, c.least-wanted.ensures)
-          | else-kept-i-via-else-kept-i w ↦ absurd (stays (slice_get-get_or c.args.kept.now c.loop-i.i false (omega (arith, c.loop-i-test.true, c.requires)) ∙ ap Some w.if-kept-i.false))
-        ]))
+    let same = edge_is table c.index-self-i.result c.loop-i.i e c.loop-i-test.true at in
+    subst (λ d. held_rank rank d ≤ wanted_rank rank d) (sym same)
+    (elim c.else-kept-i.branch [
+      | else-kept-i-via-then-kept-i+else-held-wanted w ↦ omega (arith, w.if-held-wanted.false, c.rank-held.ensures, c.least-wanted.ensures)
+      | else-kept-i-via-else-kept-i w ↦ absurd (stays (slice_get-get_or c.args.kept.now c.loop-i.i false (omega (arith, c.loop-i-test.true, c.requires)) ∙ ap Some w.if-kept-i.false))
+    ]))
 
 pub returns : goal.returns
 returns c = λ _ i e at stays.
