@@ -9,7 +9,7 @@
 //! goodlock_report_so_far(&session, GOODLOCK_FULL_MODE, 4, 1000, &report);
 //! ```
 //!
-//! Each export calls a function of gl_engine, gl_std, gl_report, gl_renumbering or gl_cycles, and says its
+//! Each export calls a function of gl_engine, gl_std, gl_report, gl_renumbering or gl_findings, and says its
 //! clauses again for what the handles are of. `library/goodlock.h` says of each call who makes it and what it costs.
 //!
 //! A handle ([`Session`](session::Session), [`Lane`](lane::Lane), [`Made`](made::Made)) is one pointer to a

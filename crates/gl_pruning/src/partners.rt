@@ -1,4 +1,4 @@
-//! Edges beside which no other one may stand in a cycle.
+//! Edges that are stuck: beside which no other one may stand in a cycle, on one side.
 //!
 //! Each edge of a cycle is followed by another one of it, and led by one. So where none of the edges that are kept may
 //! follow an edge, or none may lead it, it is in no cycle, and is left out; and then others may have none in turn.
