@@ -12,6 +12,6 @@ returns c listing asked names others lists other_lists made other same one two =
     let alike = same_lists names others lists other_lists same in
     let by = lists_by_mention others other_lists in
     let report : made.report ≡ other.report = listings_agree listing asked by made.report other.report (subst (λ ls. IsReportOf listing asked ls made.report) alike.1 one.0) two.0 in
-    let lists_what : made.listing ≡ other.listing = one.1.0 ∙ sym two.1.0 in
-    let own : made.names ≡ other.names = one.1.1 ∙ ap Some alike.0 ∙ sym two.1.1 in
+    let lists_what : made.listing ≡ other.listing = one.1 ∙ sym two.1 in
+    let own : made.names ≡ other.names = one.2 ∙ ap Some alike.0 ∙ sym two.2 in
     λ i. record { report = report i; listing = lists_what i; names = own i }
