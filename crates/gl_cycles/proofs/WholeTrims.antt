@@ -11,7 +11,8 @@ use Rattle.gl_edges.proofs.Membership.{any_from_contains, contains_from_any, con
 use Rattle.gl_filters.specs.declared.query.Mode.{Mode}
 use Rattle.gl_filters.specs.Picked.{picked}
 use Rattle.gl_cycles.specs.AllCycles.{all_cycles}
-use Rattle.gl_trims.specs.Trims.{is_beside, HasBeside, IsStuck, IsFirstStuck, IsTrimOrder, IsTrimmed, others, is_alone, is_stuck, removals, whole_trim}
+use Rattle.gl_index.specs.Sides.{is_beside}
+use Rattle.gl_trims.specs.Trims.{HasBeside, IsStuck, IsFirstStuck, IsTrimOrder, IsTrimmed, others, is_alone, is_stuck, removals, whole_trim}
 use Rattle.gl_index.specs.declared.sides.Side.{Side}
 use Rattle.gl_trims.specs.bodies.Trimming.{AreFlagsOf}
 use Rattle.gl_cycles.proofs.AmongAllCycles.{filter_has, filter_from, there_is_cycle}

@@ -1,6 +1,6 @@
 -- Elements of lists by their positions.
-use Rattle.std.proofs.Common.{◌≡◌, ◌≢◌, ℕ, zero, suc, ◌+◌, ◌<◌, Bool, true, false, cond, List, [], ◌∷◌, ◌++◌, length, set, filter, Some, refl, sym, ap, ◌∙◌, arith}
-use Rattle.std.specs.Prelude.{slice_get}
+use Rattle.std.proofs.Common.{◌≡◌, ◌≢◌, ℕ, zero, suc, ◌+◌, ◌-◌, ◌<◌, ◌≤◌, Bool, true, false, cond, List, [], ◌∷◌, ◌++◌, length, set, filter, Option, Some, refl, sym, ap, subst, ◌∙◌, arith}
+use Rattle.std.specs.Prelude.{slice_get, unwrap_or}
 use Rattle.std.specs.List.{range_with_len}
 use Rattle.std.proofs.lemmas.List.{length-set, get_or-set_same, get_or-set_other}
 use Rattle.std.proofs.lemmas.Option.{slice_get-get_or}
@@ -41,3 +41,8 @@ range-more a (suc n) =
     let long : suc n + 1 ≡ suc (n + 1) = omega arith in
     let e : a + 1 + n ≡ a + suc n = omega arith in
     ap (range_with_len a) long ∙ ap (λ l. a ∷ l) (range-more (a + 1) n ∙ ap (λ k. range_with_len (a + 1) n ++ k ∷ []) e)
+
+-- a later position leaves fewer
+pub fewer_left : (size many : ℕ) (next : Option ℕ) (other : ℕ) (after : Option ℕ) → size ≡ many → next ≡ Some other → other < size → other + 1 ≤ unwrap_or after size → many - unwrap_or after many < many - unwrap_or next many
+fewer_left size many next other after same is within later =
+    subst (λ m. m - unwrap_or after m < m - unwrap_or next m) same (subst (λ o. size - unwrap_or after size < size - unwrap_or o size) (sym is) (omega (arith, within, later)))

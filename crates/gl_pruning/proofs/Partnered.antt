@@ -9,8 +9,7 @@ use Rattle.gl_filters.specs.declared.query.Mode.{Mode}
 use Rattle.gl_index.specs.declared.sides.Side.{Side}
 use Rattle.gl_index.specs.declared.sides.Side.TheVariants.{Follower, Leader}
 use Rattle.gl_index.specs.Listed.{IsNextWith}
-use Rattle.gl_index.specs.Sides.{opposite, lock_towards}
-use Rattle.gl_trims.specs.Trims.{is_beside}
+use Rattle.gl_index.specs.Sides.{is_beside, opposite, lock_towards}
 use Rattle.gl_pruning.specs.OffCycles.{IsOffCycles, KeepsCycles}
 use Rattle.gl_pruning.specs.Sought.{StayLeftOut}
 use Rattle.gl_pruning.specs.bodies.Partners.{NoneBeside, IsNextBeside}

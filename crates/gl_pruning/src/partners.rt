@@ -9,8 +9,7 @@ ghost use Rattle.std.specs.Prelude.{◌≡◌, ◌<◌, None, length, IsTrue, If
 ghost use Rattle.gl_segments.specs.Clocks.{is_before};
 ghost use Rattle.gl_filters.specs.Picked.{edges_of_table};
 ghost use Rattle.gl_index.specs.Indexes.{AreChainedKept};
-ghost use Rattle.gl_index.specs.Sides.{opposite};
-ghost use Rattle.gl_trims.specs.Trims.{is_beside};
+ghost use Rattle.gl_index.specs.Sides.{is_beside, opposite};
 ghost use Rattle.gl_edges.specs.declared.edge.Edge.{Edge};
 ghost use Rattle.gl_pruning.specs.Sought.{KeepsSought, GoesOnSeeking};
 ghost use Rattle.gl_pruning.specs.bodies.Flags.{TellsIfAny};

@@ -10,12 +10,12 @@ use Rattle.gl_edges.specs.declared.edge.Edge.{Edge}
 use Rattle.gl_filters.specs.declared.query.Mode.{Mode}
 use Rattle.gl_index.specs.declared.sides.Side.{Side}
 use Rattle.gl_index.specs.declared.sides.Side.TheVariants.{Follower, Leader}
-use Rattle.gl_trims.specs.Trims.{is_beside, HasBeside, IsStuck, IsFirstStuck}
+use Rattle.gl_trims.specs.Trims.{HasBeside, IsStuck, IsFirstStuck}
 use Rattle.gl_trims.specs.bodies.Trimming.{IsFlagged, NoneBeside, IsStart, IsHint, HasHint, KeepHints, AreHints, AreBothHints, AreAwake, HasBesideAt, TellsStuck, AreSettled, hints_of, watched_at}
 use Rattle.gl_trims.specs.bodies.Waiting.{waits}
 use Rattle.gl_trims.specs.declared.waiting.Waiting.{Waiting}
 use Rattle.gl_index.specs.Indexes.{AreChained}
-use Rattle.gl_index.specs.Sides.{opposite, lock_towards}
+use Rattle.gl_index.specs.Sides.{is_beside, opposite, lock_towards}
 use Rattle.gl_index.specs.Listed.{IsNextWith}
 use Rattle.gl_index.specs.Users.{MayUse, AreUsers}
 use Rattle.gl_index.specs.declared.users.Users.{Users}
@@ -231,11 +231,6 @@ module _ (before : Segment → Segment → Bool) (mode : Mode) (edges : List Edg
 
   pub first_from : (i : ℕ) → length gone ≡ length edges → IsStuck before mode edges (IsFlagged gone) i → AreSettled before mode edges gone i → IsFirstStuck before mode edges (IsFlagged gone) i
   first_from i long stuck settled = (stuck, λ j below. not_stuck i j long settled below)
-
--- a later position leaves fewer
-pub fewer_left : (size many : ℕ) (next : Option ℕ) (other : ℕ) (after : Option ℕ) → size ≡ many → next ≡ Some other → other < size → other + 1 ≤ unwrap_or after size → many - unwrap_or after many < many - unwrap_or next many
-fewer_left size many next other after same is within later =
-    subst (λ m. m - unwrap_or after m < m - unwrap_or next m) same (subst (λ o. size - unwrap_or after size < size - unwrap_or o size) (sym is) (omega (arith, within, later)))
 
 -- who has no hint that is left gives none up
 pub kept_put : (gone : List Bool) (found : List (Option ℕ)) (i : ℕ) (next : Option ℕ) → ¬ HasHint gone found i → KeepHints gone found (set found i next)

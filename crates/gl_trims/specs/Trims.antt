@@ -4,15 +4,10 @@ use Rattle.std.specs.List.{list_any, range_with_len}
 use Rattle.gl_event.specs.declared.events.Segment.{Segment}
 use Rattle.gl_edges.specs.declared.edge.Edge.{Edge}
 use Rattle.gl_filters.specs.declared.query.Mode.{Mode}
-use Rattle.gl_filters.specs.Test.{is_compatible}
 use Rattle.gl_filters.specs.Picked.{picked}
+use Rattle.gl_index.specs.Sides.{is_beside}
 use Rattle.gl_index.specs.declared.sides.Side.{Side}
 use Rattle.gl_index.specs.declared.sides.Side.TheVariants.{Follower, Leader}
-
--- the second edge may come right after the first one in a cycle, as its follower, or right before it, as its leader
-abbrev pub is_beside : (Segment → Segment → Bool) → Mode → Side → Edge → Edge → Bool
-is_beside before mode Follower e f = is_compatible before mode e f
-is_beside before mode Leader e f = is_compatible before mode f e
 
 -- the positions of edges that aren't among these, ascending
 abbrev pub others : List Edge → List ℕ → List ℕ

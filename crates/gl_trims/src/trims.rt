@@ -4,13 +4,13 @@ ghost use Rattle.std.specs.Bool.{Decides};
 ghost use Rattle.std.specs.List.{list_any};
 ghost use Rattle.gl_segments.specs.Clocks.{is_before};
 ghost use Rattle.gl_filters.specs.Picked.{edges_of_table};
-ghost use Rattle.gl_trims.specs.Trims.{is_beside, IsFirstStuck, IsTrimmed, others};
+ghost use Rattle.gl_trims.specs.Trims.{IsFirstStuck, IsTrimmed, others};
 ghost use Rattle.gl_index.specs.declared.sides.Side.{Side};
 ghost use Rattle.gl_edges.specs.declared.edge.Edge.{Edge};
 ghost use Rattle.gl_trims.specs.bodies.Trimming.{IsFlagged, IsStart, IsHint, HasHint, AreHints, AreBothHints, HasBesideAt, TellsStuck, KeepHints, AreSettled, AreFlagsOf, AreAwake, AreTaken, IsWoken, hints_of, watched_at};
 ghost use Rattle.gl_trims.specs.bodies.Waiting.{waits, AreEarlier};
 ghost use Rattle.gl_index.specs.Indexes.{AreChained};
-ghost use Rattle.gl_index.specs.Sides.{lock_towards, opposite};
+ghost use Rattle.gl_index.specs.Sides.{is_beside, lock_towards, opposite};
 ghost use Rattle.gl_index.specs.Users.{AreUsers, MayUse};
 
 use crate::waiting::Waiting;

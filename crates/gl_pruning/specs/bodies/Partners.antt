@@ -4,10 +4,9 @@ use Rattle.gl_event.specs.declared.events.Segment.{Segment}
 use Rattle.gl_edges.specs.declared.edge.Edge.{Edge}
 use Rattle.gl_filters.specs.declared.query.Mode.{Mode}
 use Rattle.gl_index.specs.Indexes.{AreChainedKept}
-use Rattle.gl_index.specs.Sides.{lock_towards, opposite}
+use Rattle.gl_index.specs.Sides.{is_beside, lock_towards, opposite}
 use Rattle.gl_index.specs.declared.chains.Chain.{Chain}
 use Rattle.gl_index.specs.declared.sides.Side.{Side}
-use Rattle.gl_trims.specs.Trims.{is_beside}
 use Rattle.gl_pruning.specs.Sought.{StayLeftOut}
 
 -- the chain leads through all edges that are kept, and maybe through some that were kept when it was made, by the lock that they share with those which they stand beside

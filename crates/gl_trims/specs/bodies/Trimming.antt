@@ -5,9 +5,9 @@ use Rattle.gl_event.specs.declared.events.Segment.{Segment}
 use Rattle.gl_edges.specs.declared.edge.Edge.{Edge}
 use Rattle.gl_filters.specs.declared.query.Mode.{Mode}
 use Rattle.gl_index.specs.Indexes.{AreChained}
-use Rattle.gl_index.specs.Sides.{opposite, lock_towards}
+use Rattle.gl_index.specs.Sides.{is_beside, opposite, lock_towards}
 use Rattle.gl_index.specs.Users.{AreUsers}
-use Rattle.gl_trims.specs.Trims.{is_beside, HasBeside, IsStuck, IsTrimOrder}
+use Rattle.gl_trims.specs.Trims.{HasBeside, IsStuck, IsTrimOrder}
 use Rattle.gl_trims.specs.bodies.Waiting.{waits, AreEarlier}
 use Rattle.gl_trims.specs.declared.trims.Hints.{Hints}
 use Rattle.gl_index.specs.declared.sides.Side.{Side}

@@ -5,10 +5,8 @@ use Rattle.std.proofs.lemmas.Option.{slice_get-get_or, same_Some}
 use Rattle.gl_segments.specs.Clocks.{is_before}
 use Rattle.gl_filters.specs.Picked.{edges_of_table}
 use Rattle.gl_index.specs.Listed.{IsNextWith}
-use Rattle.gl_index.specs.Sides.{opposite, lock_towards}
-use Rattle.gl_index.proofs.Lists.{element_at}
-use Rattle.gl_trims.specs.Trims.{is_beside}
-use Rattle.gl_trims.proofs.Beside.{fewer_left}
+use Rattle.gl_index.specs.Sides.{is_beside, opposite, lock_towards}
+use Rattle.gl_index.proofs.Lists.{element_at, fewer_left}
 use Rattle.gl_pruning.specs.bodies.Partners.{IsNextBeside}
 use Rattle.gl_pruning.proofs.ByKinds.{edge_is}
 use Rattle.gl_pruning.proofs.Partnered.{begins, goes_past}

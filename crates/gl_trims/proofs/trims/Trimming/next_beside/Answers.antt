@@ -6,8 +6,8 @@ use Rattle.gl_segments.specs.Clocks.{is_before}
 use Rattle.gl_filters.specs.Picked.{edges_of_table}
 use Rattle.gl_trims.specs.bodies.Trimming.{IsStart}
 use Rattle.gl_index.specs.Sides.{opposite}
-use Rattle.gl_index.proofs.Lists.{element_at}
-use Rattle.gl_trims.proofs.Beside.{start_after, fewer_left}
+use Rattle.gl_index.proofs.Lists.{element_at, fewer_left}
+use Rattle.gl_trims.proofs.Beside.{start_after}
 use Rattle.gl_trims.proofs.trims.Trimming.next_beside.Goals as goal
 use Rattle.gl_trims.proofs.trims.Trimming.next_beside.Goals.{else-not-gone-other-via-then-not-gone-other+else-fits, else-not-gone-other-via-else-not-gone-other}
 
