@@ -285,10 +285,22 @@ class Tests:
             text = "".join(f'#include "{file}"\n#include "{file}"\n' for file in files)
             source = self.folder / f"alone.{'cc' if language == 'c++' else 'c'}"
             source.write_text(text + "int alone;\n")
-            for more in ([], ["-DGOODLOCK_DEBUG"], ["-DGOODLOCK_DEBUG=2"]):
+            for more in ([], ["-DGOODLOCK_DEBUG=2"]):
                 words = [*STRICT, "-Wconversion", "-Wshadow", *more, "-fsyntax-only", f"-I{HEADERS}"]
                 done = run(compiler, f"-std={standard}", *words, source)
                 self.check(" ".join([name, *more]), done.status == 0, done.errors[-3000:])
+            self.same_but_for_a_number(f"{name} -DGOODLOCK_DEBUG", compiler, f"-std={standard}", "-x", language)
+
+    def same_but_for_a_number(self, name, *compiler):
+        """Whether the headers in C say the same with -DGOODLOCK_DEBUG and with -DGOODLOCK_DEBUG=2, but for the number
+        that asks whether it is more than 1: so what compiles by the one does by the other."""
+        texts = []
+        for more in ("-DGOODLOCK_DEBUG", "-DGOODLOCK_DEBUG=2"):
+            done = run(*compiler, more, "-E", "-P", HEADERS / "goodlock_names.h")
+            texts.append(done.output.replace(f"{more.partition('=')[2] or 1} + 0 > 1", "N + 0 > 1"))
+        is_so = "N + 0 > 1" in texts[0] and texts[0] == texts[1]
+        is_so = is_so and "GOODLOCK_DEBUG" not in (HEADERS / "goodlock.hpp").read_text()
+        self.check(name, is_so, "-DGOODLOCK_DEBUG=2 makes it another text")
 
     # --- The examples
 
@@ -398,7 +410,7 @@ class Tests:
 
     # --- Random sessions
 
-    @functools.lru_cache(maxsize=None)
+    @functools.cache
     def predicted(self, trace, mode, length, most, *more):
         """The program's answer on a trace: output, errors and status. A session has the same trace with each driver, and
         for its last two reports: the program is asked once."""
