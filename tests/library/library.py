@@ -7,7 +7,8 @@ The headers are compiled alone as C and as C++. The numbers and types of goodloc
 header.c is of its short forms and its words. Each example of library/examples prints its known report. The blocks of
 docs/EMBEDDING.md are compiled and run as they stand there, and its commands are typed, but for what is installed.
 sessions.c records random sessions in running threads; each report's text and JSON has to be what PROGRAM says of the
-trace of what was recorded, byte for byte. Some hundred of them run under AddressSanitizer, ThreadSanitizer and Valgrind.
+trace of what was recorded, byte for byte. Some hundred of them run under AddressSanitizer and ThreadSanitizer, and some
+of each kind under Valgrind.
 misuse.c uses each call wrongly, refuses memory, forks and leaves in mid-course; partial.c leaves events out, and goes
 on in a second session; order.c tells the same by numbers in two orders, and their reports by mention have to be the
 same; wrapper.cc, forms.cc and busy.cc are of goodlock.hpp, names.c of goodlock_names.h, as C and as C++, by many threads and by all short
