@@ -47,9 +47,9 @@ STRICT = ["-Wall", "-Wextra", "-pedantic", "-Werror"]
 MODES = ("basic", "guarded", "full")
 INCONSISTENT = 10  # the library's code
 BATCH = 250  # sessions in a process
-# Of these sessions some have one thread, some 23 to 63, rings of 1 event to 198, or forks and joins of a tree, of any sort
-# or none; are pulled by lane or not; are inconsistent, or list cycles; one is refused a 65th lock. Valgrind takes half a
-# second for each.
+# Of these sessions of seed 1 some have one thread, some 23 to 63, rings of 1 event to 220, or forks and joins of a tree, of
+# any sort or none; are pulled by lane or not; are inconsistent, or list cycles; one is refused a 65th lock. Valgrind takes
+# half a second for each.
 OF_EACH_KIND = range(20, 44)
 JAVA = ["/usr/lib/jvm/java-17-openjdk-amd64", os.environ.get("JAVA_HOME", "")]
 
