@@ -11,7 +11,6 @@ processors, with the same status. The last line is `N passed, N failed`.
 """
 
 import argparse
-import operator
 import os
 import pathlib
 import random
@@ -44,10 +43,8 @@ def text_of(rng):
         lines.insert(rng.randrange(len(lines) + 1), rng.choice(OTHERS))
     if rng.random() < 0.4:
         lines.insert(rng.randrange(len(lines) + 1), rng.choice(FAULTS))
-    if rng.random() < 0.3:
-        text = b"".join(map(operator.add, lines, rng.choices((b"\n", b"\r\n"), k=len(lines))))
-    else:
-        text = b"\n".join([*lines, b""])
+    ends = (b"\n", b"\r\n") if rng.random() < 0.3 else (b"\n",)
+    text = b"".join(line + rng.choice(ends) for line in lines)
     return text if rng.random() < 0.7 else text.rstrip(b"\r\n")
 
 
