@@ -31,6 +31,7 @@ MODE_OF = {b"acq": EXCLUSIVE, b"racq": SHARED, b"tryacq": EXCLUSIVE, b"tryracq":
 WAITING = (b"acq", b"racq")
 RELEASES = (b"rel", b"rrel")
 LINKS = (b"fork", b"join")
+WATCHED = frozenset((*MODE_OF, *RELEASES, *LINKS))
 
 # What is wrong, by the fault's name: its place and the line that tells it.
 LINES = {
@@ -113,7 +114,7 @@ class Trace:
         if name == b"":
             return "no thread"
         word, parenthesis, operand = call.partition(b"(")
-        if word not in (*MODE_OF, *RELEASES, *LINKS):
+        if word not in WATCHED:
             return None
         if parenthesis == b"" or not operand.endswith(b")") or operand == b")":
             return "bad operand"
@@ -132,9 +133,10 @@ class Trace:
                 return "lock taken too often"
             if entry is not None and entry.mode == SHARED and MODE_OF[word] == EXCLUSIVE:
                 return "shared lock taken exclusively"
-        mentioned = {name, operand} if word in LINKS else {name}
-        if len(self.threads) + len(mentioned - self.threads.keys()) > THREAD_LIMIT:
-            return "too many threads"
+        if thread is None or word in LINKS:
+            mentioned = {name, operand} if word in LINKS else {name}
+            if len(self.threads) + len(mentioned - self.threads.keys()) > THREAD_LIMIT:
+                return "too many threads"
         thread = self.thread(name)
         if word in LINKS:
             self.links.append((word, thread, self.last[thread], self.thread(operand)))
@@ -507,14 +509,26 @@ def check(text, trace_text):
     return len(report["cycles"]), False, "cycles"
 
 
+def judge(text, trace_text):
+    """What `check` gives, or the Fault that it raises."""
+    try:
+        return check(text, trace_text)
+    except Fault as fault:
+        return fault
+
+
+def shown(judged):
+    """Standard output, standard error and status for what was judged."""
+    if isinstance(judged, Fault):
+        return b"", judged.line(), 2
+    count, is_acyclic, word = judged
+    return f"ok, {word}: {count}{', none of any length' if is_acyclic else ''}\n".encode(), b"", 0
+
+
 def answer(text):
     """Standard output, standard error and status for an input: a report's line and a trace."""
     report, _, trace = text.partition(b"\n")
-    try:
-        count, is_acyclic, word = check(report, trace)
-    except Fault as fault:
-        return b"", fault.line(), 2
-    return f"ok, {word}: {count}{', none of any length' if is_acyclic else ''}\n".encode(), b"", 0
+    return shown(judge(report, trace))
 
 
 def main():

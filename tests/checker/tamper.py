@@ -12,6 +12,7 @@ answer beforehand must come. A PROGRAM that has `check` must answer like tests/c
 
 import argparse
 import copy
+import functools
 import json
 import os
 import pathlib
@@ -363,18 +364,38 @@ def is_as_known(known, answer, before):
     return answer[: len(known)] == known
 
 
+@functools.lru_cache(maxsize=2)
+def judged(text, trace):
+    """What tests/checker/check.py judges, once for all that is compared with it."""
+    return check.judge(text, trace)
+
+
 def answered(text, trace):
     """The answer of tests/checker/check.py as a tuple."""
-    try:
-        return ("yes", *check.check(text, trace))
-    except check.Fault as fault:
-        return fault.args
+    found = judged(text, trace)
+    return found.args if isinstance(found, check.Fault) else ("yes", *found)
+
+
+def shown(given):
+    """The answer of tests/checker/check.py to an input, as it shows it."""
+    report, _, trace = given.partition(b"\n")
+    return check.shown(judged(report, trace))
+
+
+@functools.lru_cache(maxsize=4)
+def predicted(text, mode, length, most, findings, form):
+    """The reference's answer, once for all that is made of it."""
+    return reference.answer("predict", text, reference.Query(mode, length, most, findings=findings), form)
+
+
+def by_reference(text, query, form):
+    return predicted(text, query.mode, query.length, query.most, query.findings, form)
 
 
 def true_report(text, query, form):
     """The reference's report and the answer that it must get; the report of nothing where the trace is refused."""
     query.findings = form == 3
-    printed, errors, status = reference.answer("predict", text, query, form)
+    printed, errors, status = by_reference(text, query, form)
     if status == 2:
         told = errors.decode("latin-1")
         number, _, problem = told.removeprefix("goodlock: line ").partition(": ")
@@ -387,7 +408,7 @@ def true_report(text, query, form):
     if form == 2:
         return printed[:-1], ("yes", len(tree["cycles"]), tree["trim"] is not None, "cycles")
     # Of a listed edge whose modes aren't all exclusive, format 1 says nothing that can be checked.
-    table = json.loads(reference.answer("predict", text, query, 2)[0])
+    table = json.loads(by_reference(text, query, 2)[0])
     for i, cycle in enumerate(table["cycles"]):
         for k, at in enumerate(cycle):
             told = table["edges"][at]
@@ -434,7 +455,7 @@ class Tests:
             self.skipped += 1
             return
         given = text + b"\n" + trace
-        expected = check.answer(given)
+        expected = shown(given)
         got = compare.run([self.program, "check"], given)
         if got != expected:
             path = os.path.join(tempfile.gettempdir(), f"goodlock-checks-{self.failed}.in")
@@ -481,7 +502,7 @@ def main():
     tests = Tests(program, has_check, has_format_2)
     if options.only is None:
         for name, text, trace, line, verdict in worked_reports.worked():
-            told = check.answer(text + b"\n" + trace)
+            told = shown(text + b"\n" + trace)
             tests.that(name, told == worked_reports.by_hand(line), f"by hand {line!r}, check.py {told}")
             if verdict is not None:
                 answer = answered(text, trace)

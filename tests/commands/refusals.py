@@ -6,7 +6,7 @@
 LIST has commands with commas between them ("predict, predict --json"); the table below knows some more, and `check of findings`
 is `check` of a report of findings. The answer
 must be the one of an undisturbed run, which is written by hand, or what the disturbance asks for. A preload
-library, which gcc builds in a temporary folder, does the refusing (tests/commands/refuse.c). As many commands and traces as
+library, which gcc builds in a temporary folder, does the refusing, and makes the runs of a sweep (tests/commands/refuse.c). As many commands and traces as
 there are processors are tried side by side. The last line is `N passed, N failed`.
 """
 
@@ -35,6 +35,8 @@ SOURCE = pathlib.Path(__file__).resolve().parent / "refuse.c"
 OUT_OF_MEMORY = (b"", b"goodlock: out of memory\n", 3)
 READ_FAILED = (b"", b"goodlock: read failed\n", 4)
 UNCONFIRMED = (b"", b"goodlock: session not confirmed\n", 4)
+LIMIT = 20  # seconds for a run
+OVER_TIME = (b"", b"(nothing after %d seconds)" % LIMIT, None)
 WRITE_FAILED = b"goodlock: write failed\n"
 
 WORKED = {name: (text, answer) for name, text, answer, _ in worked_traces.worked("full")}
@@ -195,44 +197,43 @@ def started_before(run):
     return ord(min(run.refused)) - ord("a")
 
 
+def runs_of(told):
+    """The runs that a sweep told of, as tests/commands/refuse.c does."""
+    file = io.BytesIO(told)
+    while line := file.readline():
+        status, *sizes = map(int, line.split())
+        output, errors, refused = map(file.read, sizes)
+        answer = OVER_TIME if status == -signal.SIGALRM else (output, errors, status)
+        yield Run(answer, refused.decode())
+
+
 class Runner:
     def __init__(self, program, library):
         self.program = program
         self.library = library
 
-    def run(self, words, text, refuse=None, is_short=False):
-        """The program with these words and this input; `refuse` is a sort of calls, the call's number and how."""
-        reading, writing = os.pipe()
-        settings = {"LD_PRELOAD": self.library, "REFUSE_TELL": str(writing)}
-        if refuse is not None:
-            settings |= dict(zip(("REFUSE_CALLS", "REFUSE_AT", "REFUSE_HOW"), map(str, refuse)))
-        if is_short:
-            settings["REFUSE_SHORT"] = "1"
+    def run(self, words, text, is_short=False):
+        """The program with these words and this input, of which nothing is refused."""
+        settings = {"LD_PRELOAD": self.library} | ({"REFUSE_SHORT": "1"} if is_short else {})
         try:
             done = subprocess.run(
-                [self.program, *given(words)], input=text, capture_output=True, timeout=20,
-                env=os.environ | settings, pass_fds=[writing],
-            )  # fmt: skip
-            answer = done.stdout, done.stderr, done.returncode
+                [self.program, *given(words)], input=text, capture_output=True, timeout=LIMIT, env=os.environ | settings
+            )
+            return Run((done.stdout, done.stderr, done.returncode), "")
         except subprocess.TimeoutExpired:
-            answer = b"", b"(nothing after 20 seconds)", None
-        finally:
-            os.close(writing)
-            with os.fdopen(reading, "rb") as told:
-                refused = told.read().decode()
-        return Run(answer, refused)
+            return Run(OVER_TIME, "")
 
     def sweep(self, words, text, sort, how, is_short=False):
-        """Runs in which the first call of the sort is refused, then the second, until a run makes too few calls."""
-        number = 1
-        while True:
-            run = self.run(words, text, (sort, number, how), is_short)
-            if run.refused == "":
-                return
-            yield number, run
-            if run.answer[2] is None:
-                return
-            number += 1
+        """Runs in which the first call of the sort is refused, then the second, until a run makes too few calls: each
+        with its number. All are children of one process, which had no instruction of the program's behind it."""
+        settings = {"LD_PRELOAD": self.library, "REFUSE_SWEEP": str(LIMIT), "REFUSE_CALLS": sort, "REFUSE_HOW": how}
+        settings |= {"REFUSE_SHORT": "1"} if is_short else {}
+        command = [self.program, *given(words)]
+        told = subprocess.run(command, input=text, stdout=subprocess.PIPE, check=True, env=os.environ | settings).stdout
+        *runs, last = runs_of(told)
+        yield from enumerate(runs, 1)
+        if last.refused != "":  # it took too long
+            yield len(runs) + 1, last
 
 
 class Tests:

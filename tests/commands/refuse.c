@@ -1,13 +1,18 @@
 /* A preload library that refuses calls of the program that it is loaded into.
 
-   REFUSE_CALLS   memory, read, write, thread or random: of which sort the refused call is
-   REFUSE_AT      the how manyeth call of that sort is refused, counted from 1
-   REFUSE_HOW     once; onwards (this one and all after it); or, of reads and writes, interrupted (once, by EINTR) and
+   REFUSE_CALLS   memory, read, write, thread or random: of which sort the refused calls are
+   REFUSE_HOW     once; onwards (a call and all after it); or, of reads and writes, interrupted (once, by EINTR) and
                   nothing (once, by the answer that no byte was moved)
    REFUSE_SHORT   if set, each read and write moves one byte at most
-   REFUSE_TELL    a file descriptor to which a byte goes for each refused call: the descriptor that a read or write was
-                  on, as a digit; of memory how many threads had been started by then, as a letter (`a` none, `b` one,
-                  and so on, `z` all beyond); of a thread `t`, of random bytes `n`
+   REFUSE_SWEEP   how many seconds a run may take; without it nothing is refused
+
+   The process makes all runs of a sweep: in the first one the first call of the sort is refused, in the second one
+   the second, until a run makes too few calls or takes too long. Each run is a child that goes on from before the
+   program's first instruction, with pipes for its input, which is what the process reads, and for its output and
+   errors. Of each run standard output gets a line with its status (that of a signal below zero) and three sizes, and
+   then the bytes that these are of: its output, its errors, and a sign for each refused call. That is the descriptor
+   that a read or write was on, as a digit; of memory how many threads had been started by then, as a letter (`a`
+   none, `b` one, and so on, `z` all beyond); of a thread `t`, of random bytes `n`.
 
    A refused call does nothing else. Memory that the C library takes for itself isn't counted. */
 
@@ -15,13 +20,16 @@
 #include <dlfcn.h>
 #include <errno.h>
 #include <pthread.h>
+#include <signal.h>
 #include <stdarg.h>
 #include <stddef.h>
+#include <stdio.h>
 #include <stdlib.h>
 #include <string.h>
 #include <sys/mman.h>
 #include <sys/syscall.h>
 #include <sys/uio.h>
+#include <sys/wait.h>
 #include <unistd.h>
 
 #define OPEN __attribute__((visibility("default")))
@@ -30,19 +38,109 @@ static const char *calls = "", *how = "once";
 static long at, made, started;
 static int tells = -1, is_short;
 
+/* ---- sweeps */
+
+struct text {
+    size_t size;
+    char bytes[65536]; /* a pipe holds no more */
+};
+
+/* What stands between a sweep and its runs is no answer of the program's: it ends the sweep. */
+static void need(int is_so, const char *what)
+{
+    if (is_so)
+        return;
+    perror(what);
+    _exit(120);
+}
+
+static void take_all(int file, struct text *text)
+{
+    ssize_t more = 1;
+    for (text->size = 0; more > 0; text->size += (size_t)more) {
+        more = syscall(SYS_read, file, text->bytes + text->size, sizeof text->bytes - text->size);
+        need(more >= 0 && text->size + (size_t)more < sizeof text->bytes, "refuse.c: a text for a pipe");
+    }
+}
+
+static void give_all(int file, const char *bytes, size_t size)
+{
+    while (size > 0) {
+        long given = syscall(SYS_write, file, bytes, size);
+        need(given > 0, "refuse.c: writing");
+        bytes += given;
+        size -= (size_t)given;
+    }
+}
+
+/* In the child: its ends of the pipes are its standard files, and the one that refused calls are told to. */
+static void become_a_run(int pipes[4][2], unsigned seconds)
+{
+    for (int i = 0; i < 3; i++)
+        dup2(pipes[i][i > 0], i);
+    tells = dup(pipes[3][1]);
+    for (int i = 0; i < 4; i++) {
+        close(pipes[i][0]);
+        close(pipes[i][1]);
+    }
+    alarm(seconds);
+}
+
+/* Tells of a run that has ended; whether another one is to be made. */
+static int is_told(int pipes[4][2], int status)
+{
+    static struct text texts[4];
+    char line[100];
+    for (int i = 1; i < 4; i++)
+        take_all(pipes[i][0], &texts[i]);
+    const int told = WIFSIGNALED(status) ? -WTERMSIG(status) : WEXITSTATUS(status);
+    const int size = snprintf(line, sizeof line, "%d %zu %zu %zu\n", told, texts[1].size, texts[2].size, texts[3].size);
+    give_all(1, line, (size_t)size);
+    for (int i = 1; i < 4; i++)
+        give_all(1, texts[i].bytes, texts[i].size);
+    return texts[3].size > 0 && told != -SIGALRM;
+}
+
+/* Makes one run after the other. It returns in the child that is a run, and ends the process behind the last one. */
+static void sweep(unsigned seconds)
+{
+    static struct text input;
+    take_all(0, &input);
+    for (at = 1;; at++) {
+        int pipes[4][2], status; /* input, output, errors, refused calls */
+        for (int i = 0; i < 4; i++)
+            need(pipe(pipes[i]) == 0, "refuse.c: pipe");
+        give_all(pipes[0][1], input.bytes, input.size);
+        const pid_t child = fork();
+        need(child >= 0, "refuse.c: fork");
+        if (child == 0) {
+            become_a_run(pipes, seconds);
+            return;
+        }
+        for (int i = 0; i < 4; i++)
+            close(pipes[i][1]);
+        need(waitpid(child, &status, 0) == child, "refuse.c: waitpid");
+        if (!is_told(pipes, status))
+            _exit(0);
+        for (int i = 0; i < 4; i++)
+            close(pipes[i][0]);
+    }
+}
+
+/* Before the program begins. A sweep's own calls are made without any settings. */
 __attribute__((constructor)) static void read_settings(void)
 {
     const char *value;
+    if ((value = getenv("REFUSE_SWEEP")) != NULL)
+        sweep((unsigned)atoi(value));
     is_short = getenv("REFUSE_SHORT") != NULL;
-    if ((value = getenv("REFUSE_TELL")) != NULL)
-        tells = atoi(value);
     if ((value = getenv("REFUSE_HOW")) != NULL)
         how = value;
-    if ((value = getenv("REFUSE_AT")) != NULL)
-        at = atol(value);
     if (at > 0 && (value = getenv("REFUSE_CALLS")) != NULL)
         calls = value;
 }
+
+/* ---- which calls are refused */
 
 static int is_how(const char *word)
 {

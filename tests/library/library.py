@@ -7,7 +7,8 @@ The headers are compiled alone as C and as C++. The numbers and types of goodloc
 header.c is of its short forms and its words. Each example of library/examples prints its known report. The blocks of
 docs/EMBEDDING.md are compiled and run as they stand there, and its commands are typed, but for what is installed.
 sessions.c records random sessions in running threads; each report's text and JSON has to be what PROGRAM says of the
-trace of what was recorded, byte for byte. Some hundred of them run under AddressSanitizer, ThreadSanitizer and Valgrind.
+trace of what was recorded, byte for byte. Some hundred of them run under AddressSanitizer and ThreadSanitizer, and some
+of each kind under Valgrind.
 misuse.c uses each call wrongly, refuses memory, forks and leaves in mid-course; partial.c leaves events out, and goes
 on in a second session; order.c tells the same by numbers in two orders, and their reports by mention have to be the
 same; wrapper.cc, forms.cc and busy.cc are of goodlock.hpp, names.c of goodlock_names.h, as C and as C++, by many threads and by all short
@@ -23,6 +24,8 @@ CASES     how many random sessions     (3000, as --cases)
 import argparse
 import collections
 import concurrent.futures
+import functools
+import itertools
 import os
 import pathlib
 import re
@@ -44,6 +47,10 @@ STRICT = ["-Wall", "-Wextra", "-pedantic", "-Werror"]
 MODES = ("basic", "guarded", "full")
 INCONSISTENT = 10  # the library's code
 BATCH = 250  # sessions in a process
+# Of these sessions of seed 1 some have one thread, some 23 to 63, rings of 1 event to 220, or forks and joins of a tree, of
+# any sort or none; are pulled by lane or not; are inconsistent, or list cycles; one is refused a 65th lock. Valgrind takes
+# half a second for each.
+OF_EACH_KIND = range(20, 44)
 JAVA = ["/usr/lib/jvm/java-17-openjdk-amd64", os.environ.get("JAVA_HOME", "")]
 
 # Types of parameters and results of the exports, as they are in C. The allocator is nothing there.
@@ -144,7 +151,11 @@ AROUND_NAMES = (
 }}
 """
 )
-SANITIZERS = {"plain": [], "address": ["-fsanitize=address,undefined"], "thread": ["-fsanitize=thread"]}
+# Compilers take several times as long for -O1 with sanitizers, which look at more without it: at each access as it is
+# written. What optimised code does, and is warned of, is seen without them. Of -g only lines are read, in their reports.
+OPTIMISED, AS_WRITTEN = ["-O1", "-g1"], ["-O0", "-g1"]
+ADDRESS, THREAD = "-fsanitize=address,undefined", "-fsanitize=thread"
+BUILDS = {"plain": OPTIMISED, "address": [*AS_WRITTEN, ADDRESS], "thread": [*AS_WRITTEN, THREAD]}
 WRAPS = [f"-Wl,--wrap={name}" for name in ("malloc", "calloc", "realloc", "aligned_alloc")]
 DEBUG = "-DGOODLOCK_DEBUG"
 LEFT = (
@@ -196,7 +207,7 @@ class Tests:
         self.numbers()
         self.types()
         self.words()
-        c = ["-O1", "-g", *STRICT, f"-I{HEADERS}"]
+        c = [*OPTIMISED, *STRICT, f"-I{HEADERS}"]
         rest = ["-x", "none", ARCHIVE, "-Wl,--wrap=goodlock_record", "-lpthread"]
         for language, first in (("c", ["gcc", "-std=gnu11"]), ("c++", ["g++", "-std=gnu++17"])):
             program = "header_cc" if language == "c++" else "header_c"
@@ -275,10 +286,22 @@ class Tests:
             text = "".join(f'#include "{file}"\n#include "{file}"\n' for file in files)
             source = self.folder / f"alone.{'cc' if language == 'c++' else 'c'}"
             source.write_text(text + "int alone;\n")
-            for more in ([], ["-DGOODLOCK_DEBUG"], ["-DGOODLOCK_DEBUG=2"]):
+            for more in ([], ["-DGOODLOCK_DEBUG=2"]):
                 words = [*STRICT, "-Wconversion", "-Wshadow", *more, "-fsyntax-only", f"-I{HEADERS}"]
                 done = run(compiler, f"-std={standard}", *words, source)
                 self.check(" ".join([name, *more]), done.status == 0, done.errors[-3000:])
+            self.same_but_for_a_number(f"{name} -DGOODLOCK_DEBUG", compiler, f"-std={standard}", "-x", language)
+
+    def same_but_for_a_number(self, name, *compiler):
+        """Whether the headers in C say the same with -DGOODLOCK_DEBUG and with -DGOODLOCK_DEBUG=2, but for the number
+        that asks whether it is more than 1: so what compiles by the one does by the other."""
+        texts = []
+        for more in ("-DGOODLOCK_DEBUG", "-DGOODLOCK_DEBUG=2"):
+            done = run(*compiler, more, "-E", "-P", HEADERS / "goodlock_names.h")
+            texts.append(done.output.replace(f"{more.partition('=')[2] or 1} + 0 > 1", "N + 0 > 1"))
+        is_so = "N + 0 > 1" in texts[0] and texts[0] == texts[1]
+        is_so = is_so and "GOODLOCK_DEBUG" not in (HEADERS / "goodlock.hpp").read_text()
+        self.check(name, is_so, "-DGOODLOCK_DEBUG=2 makes it another text")
 
     # --- The examples
 
@@ -287,7 +310,7 @@ class Tests:
         self.check(name, done == Done(0, right, ""), f"status {done.status}\n{done.output}{done.errors}")
 
     def examples(self):
-        c = ["-O1", "-g", *STRICT, f"-I{HEADERS}"]
+        c = [*OPTIMISED, *STRICT, f"-I{HEADERS}"]
         if self.build("bank", "gcc", "-std=gnu11", *c, EXAMPLES / "bank.c", ARCHIVE, "-lpthread"):
             self.example("the example in C", BY_NAME, "./bank")
         if self.build("named", "gcc", "-std=gnu11", *c, EXAMPLES / "named.c", ARCHIVE, "-lpthread"):
@@ -388,20 +411,20 @@ class Tests:
 
     # --- Random sessions
 
+    @functools.cache
     def predicted(self, trace, mode, length, most, *more):
-        """Bytes and status of the program's answer on a trace."""
+        """The program's answer on a trace: output, errors and status. A session has the same trace with each driver, and
+        for its last two reports: the program is asked once."""
         words = ["predict", "--mode", MODES[mode], "--len", length, "--max", most, *more]
-        with open(trace, "rb") as file:
-            done = subprocess.run(
-                [self.program, *map(str, words)], stdin=file, capture_output=True, timeout=60, check=False
-            )
+        done = subprocess.run([self.program, *map(str, words)], input=trace, capture_output=True, timeout=60)
         return done.stdout, done.stderr, done.returncode
 
     def compared(self, line, folder):
         """What is wrong with the report that a line of the driver tells; nothing where all is well."""
         name, *numbers = line.split()
         mode, length, most, code, cycles, more = map(int, numbers)
-        trace = folder / f"{name}.std"
+        path = folder / f"{name}.std"
+        trace = path.read_bytes()
         text, errors, status = self.predicted(trace, mode, length, most)
         if code == INCONSISTENT or status > 1:
             is_so = code == INCONSISTENT and status == 2 and errors.startswith(b"goodlock: inconsistent: ")
@@ -409,25 +432,31 @@ class Tests:
         if code != 0:
             return f"{name}: code {code}"
         if text != (folder / f"{name}.text").read_bytes():
-            return f"{name}: another text than that of `predict` on {trace}"
+            return f"{name}: another text than that of `predict` on {path}"
         if text.splitlines()[-1] != f"cycles: {cycles}{' (more)' * more}".encode():
             return f"{name}: {cycles} cycles are told, more: {more}, and the text ends with {text.splitlines()[-1]!r}"
         json = self.predicted(trace, mode, length, most, "--json")[0]
         if json != (folder / f"{name}.json").read_bytes():
-            return f"{name}: another JSON than that of `predict --json` on {trace}"
+            return f"{name}: another JSON than that of `predict --json` on {path}"
         return None
 
-    def batch(self, driver, first, last, prefix=(), **more):
+    def compared_all(self, lines, folder):
+        """What is wrong with the reports that the driver's lines tell. Sessions are looked at side by side, each one's
+        reports in turn."""
+        sessions = [list(some) for _, some in itertools.groupby(lines, lambda line: line.partition("-")[0])]
+        with concurrent.futures.ThreadPoolExecutor(2) as pool:
+            found = pool.map(lambda some: [self.compared(line, folder) for line in some], sessions)
+            return [fault for some in found for fault in some if fault is not None]
+
+    def batch(self, driver, first, last, prefix=()):
         """Runs some sessions; their faults and the number of reports."""
         with tempfile.TemporaryDirectory(dir=self.folder) as place:
-            done = run(*prefix, driver, self.seed, first, last, place, seconds=1500, **more)
+            done = run(*prefix, driver, self.seed, first, last, place, seconds=1500)
             faults = []
             if done.status != 0 or done.errors:
                 faults.append(f"sessions {first} to {last}: status {done.status}\n{done.errors[-3000:]}")
             lines = done.output.splitlines()
-            with concurrent.futures.ThreadPoolExecutor(2) as pool:
-                found = list(pool.map(lambda line: self.compared(line, pathlib.Path(place)), lines))
-        faults += [fault for fault in found if fault is not None]
+            faults += self.compared_all(lines, pathlib.Path(place))
         return (
             faults,
             len(lines),
@@ -435,71 +464,73 @@ class Tests:
             sum(line.split()[5] != "0" for line in lines),
         )
 
-    def sessions_by(self, name, driver, cases, prefix=(), **more):
+    def sessions_by(self, name, driver, numbers, prefix=()):
+        """Runs the sessions of these numbers."""
         reports = inconsistent = cyclic = 0
-        for first in range(0, cases, BATCH):
-            last = min(cases, first + BATCH)
-            faults, made, loops, with_cycles = self.batch(driver, first, last, prefix, **more)
+        for first in numbers[::BATCH]:
+            last = min(numbers.stop, first + BATCH)
+            faults, made, loops, with_cycles = self.batch(driver, first, last, prefix)
             reports, inconsistent, cyclic = reports + made, inconsistent + loops, cyclic + with_cycles
             self.passed += max(0, last - first - len(faults))
             for fault in faults:
                 self.check(f"{name}", False, fault)
-        print(f"{name}: {cases} sessions, {reports} reports, {cyclic} with cycles, {inconsistent} inconsistent")
+        print(f"{name}: {len(numbers)} sessions, {reports} reports, {cyclic} with cycles, {inconsistent} inconsistent")
 
     def driver(self, output, *words):
         source = HERE / "sessions.c"
-        c = ["gcc", "-std=gnu11", "-g", *STRICT, f"-I{HEADERS}", *words, source, ARCHIVE, "-lpthread"]
+        c = ["gcc", "-std=gnu11", *OPTIMISED, *STRICT, f"-I{HEADERS}", *words, source, ARCHIVE, "-lpthread"]
         return self.folder / output if self.build(output, *c) else None
 
     def sessions(self):
-        driver = self.driver("driver", "-O1")
+        driver = self.driver("driver")
         if driver is not None:
-            self.sessions_by("random sessions", driver, self.cases)
+            self.sessions_by("random sessions", driver, range(self.cases))
 
     def sanitized(self):
-        few = min(self.cases, max(20, self.cases // 10))
-        for name in ("address,undefined", "thread"):
-            driver = self.driver(f"driver_{name[:4]}", "-O1", f"-fsanitize={name}")
+        few = range(min(self.cases, max(20, self.cases // 10)))
+        for name, sanitizer in (("address", ADDRESS), ("thread", THREAD)):
+            driver = self.driver(f"driver_{name}", sanitizer)
             if driver is not None:
                 self.sessions_by(f"under {name} sanitizer", driver, few)
-            c = ["g++", "-std=c++17", "-O1", "-g", *STRICT, f"-I{HEADERS}", f"-fsanitize={name}", EXAMPLES / "bank.cc"]
-            if self.build(f"bank_{name[:4]}", *c, ARCHIVE, "-lpthread"):
+            c = ["g++", "-std=c++17", *STRICT, f"-I{HEADERS}", *BUILDS[name], EXAMPLES / "bank.cc"]
+            if self.build(f"bank_{name}", *c, ARCHIVE, "-lpthread"):
                 # ThreadSanitizer sees this run's lock order, too: it isn't asked here.
-                done = run(self.folder / f"bank_{name[:4]}", env={**os.environ, "TSAN_OPTIONS": "detect_deadlocks=0"})
+                done = run(self.folder / f"bank_{name}", env={**os.environ, "TSAN_OPTIONS": "detect_deadlocks=0"})
                 self.check(f"bank.cc by {name}", done.status == 0 and not done.errors, done.errors[-3000:])
         if shutil.which("valgrind") is None:
             self.skip("sessions under Valgrind", "valgrind isn't installed")
             return
         prefix = ["valgrind", "-q", "--error-exitcode=9", "--leak-check=full", "--fair-sched=yes"]
-        driver = self.driver("driver_plain", "-O1")
+        driver = self.driver("driver_plain")
         if driver is not None:
-            self.sessions_by("under Valgrind", driver, min(40, few), prefix)
+            self.sessions_by("under Valgrind", driver, OF_EACH_KIND, prefix)
 
     # --- The wrapper for C++
 
     def wrapper(self):
         source = HERE / "wrapper.cc"
         environment = {**os.environ, "TSAN_OPTIONS": "detect_deadlocks=0"}
-        for name, words in SANITIZERS.items():
-            c = ["g++", "-std=c++17", "-O1", "-g", *STRICT, f"-I{HEADERS}", *words, source, ARCHIVE, *WRAPS]
+        for name, words in BUILDS.items():
+            c = ["g++", "-std=c++17", *STRICT, f"-I{HEADERS}", *words, source, ARCHIVE, *WRAPS]
             if self.build(f"wrapper_{name}", *c, "-lpthread"):
                 for word in ("locks", "names", "memory", "threads", "leave"):
                     self.counted(f"wrapper, {word}, {name}", f"wrapper_{name}", word, env=environment)
             self.busy(name, "g++", "c++11", *words)
-            if name != "thread":  # gcc's doesn't know pthread_mutex_clocklock, by which std's limits of time go
-                self.forms(name, "g++", "c++17", *words)
+        # Not by thread: gcc's doesn't know pthread_mutex_clocklock, by which std's limits of time go.
+        self.forms("address", "g++", "c++17", *BUILDS["address"])
         for compiler in ("g++", "clang++"):
             for standard in ("c++11", "c++14", "c++17", "c++20"):
                 if shutil.which(compiler) is None:
                     self.skip(f"goodlock.hpp as {standard} by {compiler}", f"{compiler} isn't installed")
-                else:
-                    self.forms(f"{compiler} {standard}", compiler, standard)
+                else:  # optimised by one standard, as no line of goodlock.hpp depends on it
+                    words = OPTIMISED if standard == "c++17" else AS_WRITTEN
+                    self.forms(f"{compiler} {standard}", compiler, standard, *words)
         if shutil.which("clang++") is not None:
-            self.busy("clang++", "clang++", "c++20")
+            self.busy("clang++", "clang++", "c++20", *OPTIMISED)
 
     def busy(self, name, compiler, standard, *words):
         """goodlock.hpp where more is recorded than can be pulled, and while the session ends."""
-        c = [f"-std={standard}", "-O1", "-g", *STRICT, "-Wconversion", "-Wshadow", f"-I{HEADERS}", *words]
+        c = [f"-std={standard}", *STRICT, "-Wconversion", "-Wshadow", f"-I{HEADERS}", *words]
         wraps = ["-Wl,--wrap=goodlock_pull", "-Wl,--wrap=goodlock_pull_lane"]
         output = f"busy_{re.sub('[^a-z0-9]', '_', name)}"
         environment = {**os.environ, "TSAN_OPTIONS": "detect_deadlocks=0"}
@@ -509,7 +540,7 @@ class Tests:
 
     def forms(self, name, compiler, standard, *words, **more):
         """Whether goodlock.hpp has the forms of std, without a warning."""
-        c = [f"-std={standard}", "-O1", "-g", *STRICT, "-Wconversion", "-Wshadow", f"-I{HEADERS}", *words]
+        c = [f"-std={standard}", *STRICT, "-Wconversion", "-Wshadow", f"-I{HEADERS}", *words]
         output = f"forms_{re.sub('[^a-z0-9]', '_', name)}"
         if self.build(output, compiler, *c, HERE / "forms.cc", ARCHIVE, "-lpthread"):
             self.counted(f"forms, {name}", output, "forms", **more)
@@ -517,10 +548,10 @@ class Tests:
     # --- Names
 
     def names(self):
-        c = ["-O1", "-g", *STRICT, f"-I{HEADERS}"]
+        c = [*STRICT, f"-I{HEADERS}"]
         rest = ["-x", "none", ARCHIVE, *WRAPS, "-lpthread"]
         for language, first in (("c", ["gcc", "-std=gnu11"]), ("c++", ["g++", "-std=gnu++17"])):
-            for name, words in SANITIZERS.items():
+            for name, words in BUILDS.items():
                 program = f"names_{'cc' if language == 'c++' else 'c'}_{name}"
                 if not self.build(program, *first, *c, *words, "-x", language, HERE / "names.c", *rest):
                     continue
@@ -530,15 +561,15 @@ class Tests:
                     self.counted(f"names, {word}, {language}, {name}", program, word)
         environment = {**os.environ, "TSAN_OPTIONS": "detect_deadlocks=0"}
         for name in ("address", "thread"):
-            words = ["gcc", "-std=gnu11", *c, *SANITIZERS[name], EXAMPLES / "named.c", ARCHIVE, "-lpthread"]
+            words = ["gcc", "-std=gnu11", *c, *BUILDS[name], EXAMPLES / "named.c", ARCHIVE, "-lpthread"]
             if self.build(f"named_{name}", *words):
                 self.example(f"named.c by {name}", BY_ADDRESS, f"./named_{name}", env=environment)
 
     # --- Misuse
 
     def misuse(self):
-        for name, words in SANITIZERS.items():
-            c = ["gcc", "-std=gnu11", "-O1", "-g", *STRICT, f"-I{HEADERS}", *words]
+        for name, words in BUILDS.items():
+            c = ["gcc", "-std=gnu11", *STRICT, f"-I{HEADERS}", *words]
             if self.build(f"misuse_{name}", *c, HERE / "misuse.c", ARCHIVE, *WRAPS, "-lpthread"):
                 for word in ("misuse", "limits", "memory", "fork", "exit"):
                     self.counted(f"{word}, {name}", f"misuse_{name}", word)
@@ -550,8 +581,8 @@ class Tests:
 
     def order(self):
         source = HERE / "order.c"
-        for name, words in SANITIZERS.items():
-            c = ["gcc", "-std=gnu11", "-O1", "-g", *STRICT, f"-I{HEADERS}", *words, source, ARCHIVE, "-lpthread"]
+        for name, words in BUILDS.items():
+            c = ["gcc", "-std=gnu11", *STRICT, f"-I{HEADERS}", *words, source, ARCHIVE, "-lpthread"]
             if self.build(f"order_{name}", *c):
                 for word in ("same", "refused"):
                     self.counted(f"order, {word}, {name}", f"order_{name}", word)
@@ -562,19 +593,19 @@ class Tests:
         self.unchanged()
         strict = f"{DEBUG}=2"
         for name, c, cc, language, words in (
-            ("plain", "gcc", "g++", "c", [DEBUG]),
-            ("strict", "gcc", "g++", "c", [strict]),
-            ("clang", "clang", "clang++", "c", [DEBUG]),
-            ("c++", "g++", "g++", "c++", [strict]),
-            ("clang c++", "clang++", "clang++", "c++", [DEBUG]),
-            ("address", "gcc", "g++", "c", [DEBUG, *SANITIZERS["address"]]),
-            ("thread", "gcc", "g++", "c", [DEBUG, *SANITIZERS["thread"]]),
+            ("plain", "gcc", "g++", "c", [*OPTIMISED, DEBUG]),
+            ("strict", "gcc", "g++", "c", [*OPTIMISED, strict]),
+            ("clang", "clang", "clang++", "c", [*OPTIMISED, DEBUG]),
+            ("c++", "g++", "g++", "c++", [*OPTIMISED, strict]),
+            ("clang c++", "clang++", "clang++", "c++", [*OPTIMISED, DEBUG]),
+            ("address", "gcc", "g++", "c", [*BUILDS["address"], DEBUG]),
+            ("thread", "gcc", "g++", "c", [*BUILDS["thread"], DEBUG]),
         ):
             if shutil.which(c) is None or shutil.which(cc) is None:
                 self.skip(f"debug, {name}", f"{c} or {cc} isn't installed")
             else:
                 self.debugged(name, c, cc, language, words)
-        self.debugged("shared", "gcc", "g++", "c", [DEBUG, "-fPIC"], is_shared=True)
+        self.debugged("shared", "gcc", "g++", "c", [*OPTIMISED, DEBUG, "-fPIC"], is_shared=True)
         self.debugged_tests()
         self.debugged_sessions()
 
@@ -596,7 +627,7 @@ class Tests:
 
     def debugged(self, name, c, cc, language, words, is_shared=False):
         """Builds debug.c and debug_other.cc, and runs what they test."""
-        common = ["-O1", "-g", *STRICT, f"-I{HEADERS}", *words]
+        common = [*STRICT, f"-I{HEADERS}", *words]
         program, other = (f"{part}_{name.replace(' ', '_')}" for part in ("debug", "libother"))
         first = [c, "-x", language, "-std=gnu++17" if language == "c++" else "-std=gnu11"]
         if not self.build(f"{program}.o", *first, *common, "-c", HERE / "debug.c"):
@@ -621,9 +652,9 @@ class Tests:
 
     def debugged_tests(self):
         """What other parts run, with GOODLOCK_DEBUG."""
-        c = ["-O1", "-g", *STRICT, f"-I{HEADERS}", DEBUG]
+        c = [*STRICT, f"-I{HEADERS}", DEBUG]
         environment = {**os.environ, "TSAN_OPTIONS": "detect_deadlocks=0"}
-        for name, more in SANITIZERS.items():
+        for name, more in BUILDS.items():
             rest = [*c, *more, ARCHIVE, "-lpthread"]
             if self.build(f"debug_misuse_{name}", "gcc", "-std=gnu11", HERE / "misuse.c", *rest, *WRAPS):
                 for word in ("misuse", "limits", "memory", "fork"):
@@ -635,23 +666,23 @@ class Tests:
             if self.build(f"debug_names_{name}", "gcc", "-std=gnu11", HERE / "names.c", *rest, *WRAPS):
                 for word in ("numbers", "memory", "report", "threads"):
                     self.counted(f"debug, names, {word}, {name}", f"debug_names_{name}", word)
-            if name == "address":  # its compiler takes half a minute for this file
-                continue
+            rest = [*c, *(AS_WRITTEN if name == "plain" else more), ARCHIVE, "-lpthread"]
             if self.build(f"debug_wrapper_{name}", "g++", "-std=c++17", HERE / "wrapper.cc", *rest, *WRAPS):
                 for word in ("locks", "names", "memory", "threads"):
                     self.counted(f"debug, wrapper, {word}, {name}", f"debug_wrapper_{name}", word, env=environment)
                 self.left(f"debug, wrapper, leave, {name}", 1, f"debug_wrapper_{name}", "leave")
-            self.busy(f"debug {name}", "g++", "c++17", DEBUG, *more)
+            self.busy(f"debug {name}", "g++", "c++17", DEBUG, *(AS_WRITTEN if name == "plain" else more))
         for source, compiler, right in (("bank.c", "gcc", BY_NAME), ("named.c", "gcc", BY_ADDRESS)):
-            if self.build(f"debug_{source}.run", compiler, EXAMPLES / source, *c, ARCHIVE, "-lpthread"):
+            if self.build(f"debug_{source}.run", compiler, *OPTIMISED, EXAMPLES / source, *c, ARCHIVE, "-lpthread"):
                 self.example(f"debug, {source}", right, f"./debug_{source}.run")
 
     def debugged_sessions(self):
         few = min(self.cases, max(20, self.cases // 10))
-        for name, more in SANITIZERS.items():
-            driver = self.driver(f"debug_driver_{name}", "-O1", DEBUG, *more)
+        for name, more in (("plain", []), ("address", [ADDRESS]), ("thread", [THREAD])):
+            driver = self.driver(f"debug_driver_{name}", DEBUG, *more)
             if driver is not None:
-                self.sessions_by(f"with GOODLOCK_DEBUG, {name}", driver, few if name == "plain" else few // 3)
+                numbers = range(few if name == "plain" else few // 3)
+                self.sessions_by(f"with GOODLOCK_DEBUG, {name}", driver, numbers)
 
     def counted(self, name, program, word, **more):
         """Runs a program that counts its own checks in its last line."""

@@ -12,7 +12,11 @@
  *
  * Reports list edges by the numbers of threads and locks, and a trace numbers both by first mention. So each trace
  * begins with a thread N that takes and releases each lock alone and forks each thread, in the order of their numbers:
- * it has no edge, and orders nothing among the others. */
+ * it has no edge, and orders nothing among the others.
+ *
+ * In some sessions threads hold as many locks as they may. Each acquire that may wait makes an edge for each of
+ * them then, and each of these names all of them: a few of these sessions have such reports, of megabytes; in the
+ * others most acquires are tried, which makes no edge, and names of locks are short. */
 #include "goodlock.h"
 
 #include <pthread.h>
@@ -58,7 +62,7 @@ struct session {
     uint32_t threads, ring, locks, places;
     uint32_t mode, length, most;
     enum { NO_LINKS, A_TREE, WILD } links;
-    bool is_deep, by_lane, is_idle;
+    bool is_deep, is_ample, by_lane, is_idle; /* is_ample: not deep, or with a report of megabytes */
     struct name lock_names[MAX_LOCKS], place_names[MAX_PLACES];
     struct list lists[MAX_THREADS];
     goodlock_session handle;
@@ -157,11 +161,11 @@ static uint32_t a_held_lock(const struct session *session, const struct model *m
     return lock;
 }
 
-static uint32_t an_acquire(void)
+static uint32_t an_acquire(const struct session *session)
 {
     static const uint32_t kinds[] = {GOODLOCK_ACQUIRE,        GOODLOCK_ACQUIRE,     GOODLOCK_ACQUIRE,
                                      GOODLOCK_ACQUIRE_SHARED, GOODLOCK_TRY_ACQUIRE, GOODLOCK_TRY_ACQUIRE_SHARED};
-    return kinds[below(6)];
+    return !session->is_ample && chance(85) ? kinds[4 + below(2)] : kinds[below(6)];
 }
 
 /* An event of any kind, lawful or not. */
@@ -183,7 +187,7 @@ static void plan_lawful(const struct session *session, const struct model *model
         event->kind = chance(70) ? GOODLOCK_RELEASE : GOODLOCK_RELEASE_SHARED;
         event->operand = a_held_lock(session, model);
     } else {
-        event->kind = an_acquire();
+        event->kind = an_acquire(session);
         event->operand = below(session->locks);
     }
 }
@@ -226,11 +230,11 @@ static void plan_list(const struct session *session, uint32_t thread)
 }
 
 /* A name that is no other's, of bytes that a trace can hold. */
-static void plan_name(struct name *name, char sort, uint32_t number)
+static void plan_name(struct name *name, char sort, uint32_t number, bool is_ample)
 {
     const char *const free = " abz09@#:;.,<>()[]\"\\'/\x01\x7f\x80\xc3\xa9\xff";
     name->length = (size_t)snprintf((char *)name->bytes, MAX_NAME, "%c%u", sort, number);
-    if (chance(70))
+    if (!is_ample || chance(70))
         return;
     name->bytes[name->length++] = '.'; /* no digit, so that it is no other's name */
     for (uint32_t more = chance(90) ? below(12) : below(MAX_NAME - 20); more > 0; more--)
@@ -240,6 +244,7 @@ static void plan_name(struct name *name, char sort, uint32_t number)
 static void plan(struct session *session)
 {
     session->is_deep = chance(5);
+    session->is_ample = !session->is_deep || chance(10);
     session->threads = session->is_deep ? 1 + below(2) : chance(80) ? 1 + below(6) : 1 + below(MAX_THREADS);
     session->ring = chance(50) ? 1 + below(4) : 1 + below(256);
     session->locks = session->is_deep ? MAX_LOCKS : 1 + below(chance(50) ? 4 : 12);
@@ -251,9 +256,9 @@ static void plan(struct session *session)
     session->by_lane = chance(50);
     session->is_idle = chance(30);
     for (uint32_t i = 0; i < session->locks; i++)
-        plan_name(&session->lock_names[i], 'l', i);
+        plan_name(&session->lock_names[i], 'l', i, session->is_ample);
     for (uint32_t i = 0; i < session->places; i++)
-        plan_name(&session->place_names[i], 'p', i);
+        plan_name(&session->place_names[i], 'p', i, true);
     if (chance(20))
         session->place_names[0].length = 0;
     for (uint32_t t = 0; t < session->threads; t++)

@@ -276,13 +276,11 @@ def are_ordered(edge, other, before):
     return precedes(edge, other) or precedes(other, edge)
 
 
-def linked_lists(edges, size):
-    """All lists of this many edges, of distinct held locks, in which each edge waits for the next one."""
-    if size == 1:
-        return [[e] for e in edges]
+def longer_lists(lists, edges):
+    """These lists, each with one more edge, of another held lock, that its last one waits for; with each such edge."""
     return [
         front + [e]
-        for front in linked_lists(edges, size - 1)
+        for front in lists
         for e in edges
         if waits_for(front[-1], e) and e.held not in [f.held for f in front]
     ]
@@ -308,7 +306,10 @@ def is_cycle(cycle, before, mode):
 
 
 def cycles_of(edges, before, query):
-    candidates = [c for size in range(2, query.length + 1) for c in linked_lists(edges, size)]
+    lists, candidates = [[e] for e in edges], []
+    for _ in range(2, query.length + 1):
+        lists = longer_lists(lists, edges)
+        candidates += lists
     return sorted(c for c in candidates if is_cycle(c, before, query.mode))
 
 
