@@ -10,6 +10,7 @@ line is `N passed, N failed`.
 
 import os
 import pathlib
+import random
 import subprocess
 import sys
 import tempfile
@@ -111,15 +112,25 @@ def threads_that_look_for_edges(program):
         program.expect(f"{words} --jobs 2 starts no thread for 16,200 events, not {got}", got == 0)
 
 
-def made_trace(options):
-    made = [sys.executable, HERE.parents[1] / "bench/make_trace.py", *options.split()]
-    return subprocess.run(made, stdout=subprocess.PIPE, check=True).stdout
+def ring_under_gates():
+    """A trace without a cycle that it takes long to search: 15,600 events of threads that go from one of four layers of locks on
+    to the next one, round, each time under two of seven gates. A cycle would have four edges, and so eight gates: of any two
+    or three edges that can't be told. And under two locks of the thread's own, so that few edges are alike."""
+    draws, lines = random.Random(1), []
+    for section in range(1300):
+        thread, layer = f"T{draws.randrange(60)}", draws.randrange(4)
+        own = [f"own{thread}.{number}" for number in sorted(draws.sample(range(5), 2))]
+        gates = [f"gate{number}" for number in sorted(draws.sample(range(7), 2))]
+        ring = [f"ring{at % 4}.{draws.randrange(2)}" for at in (layer, layer + 1)]
+        names = own + gates + ring
+        lines += [f"{thread}|acq({name})|{section % 40}.{place}\n" for place, name in enumerate(names)]
+        lines += [f"{thread}|rel({name})|9\n" for name in reversed(names)]
+    return "".join(lines).encode()
 
 
 def threads_that_search(program):
     """One thread where one is asked for; else some where the search takes long, though the text is small."""
-    # threads that run in phases: there is no cycle, which is seen in turns, each of which leaves out more
-    trace = made_trace("--shape phases --threads 250 --sections 1000 --depth 4")
+    trace = ring_under_gates()
     for words in ("predict", "predict --json", "predict --findings", "stats"):
         got = program.counts(f"{words} --jobs 1", trace)[0]
         program.expect(f"{words} --jobs 1 starts no thread for a long search, not {got}", got == 0)
