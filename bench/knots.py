@@ -121,6 +121,9 @@ SHAPES = {
     },
     # What can be left out is seen in turns, one of which lets the next one leave out more.
     "phases": {"small": ["--threads 250 --sections 2000 --depth 4"], "large": ["--threads 500", ""]},
+    # The same, of threads that meet; and writers in any order, who keep all others out.
+    "barriers": {"small": [""], "large": ["--threads 252 --sections 1440"]},
+    "writers": {"small": ["--threads 6 --sections 600 --depth 8"], "large": [""]},
     # Each edge leads on to thousands, and hardly any path comes back: ways that lead nowhere are to be seen early.
     "tree": {
         "small": ["--threads 300 --locks 10 --depth 9 --segments 3", "--locks 10 --depth 9 --segments 3"],

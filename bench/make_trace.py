@@ -91,7 +91,12 @@ TURNS = {
     # The threads of a wave have one order of locks, and are joined before those of the next wave are forked, which have
     # the opposite one: there is no cycle.
     "phases": dict(threads=1_000, locks=10, depth=3, sections=4_000, waves=5),
+    # Threads that meet at barriers, each of which they make by forks and joins: the same, of threads that stay.
+    "barriers": dict(threads=126, locks=40, depth=8, sections=720, waves=20),
 }
+# Each section under one lock, which the share --shared of them hold as readers, who take others in their order; writers take them in
+# any order. There is no cycle.
+WRITERS = {"writers": dict(threads=20, locks=200, depth=5, sections=3_000, shared=0.7)}
 # Sparse graphs, in which each edge leads on to thousands and hardly any path comes back.
 SPARSE = {
     # A lock and the one above it in a tree, in both orders, by many threads: all cycles have two edges.
@@ -102,7 +107,7 @@ SPARSE = {
 # Many threads run one of two pieces of code, on all locks: millions of cycles of one mistake.
 FINDINGS = {"shared-code": dict(threads=1_000, locks=50)}
 NAMES = {"colliding-names": dict(locks=100_000), "ordinary-names": dict(locks=100_000)}
-SETTINGS = {**SHAPES, **KNOTS, **SERVERS, **PAIRS, **DENSE, **NESTED, **TURNS, **SPARSE, **FINDINGS, **NAMES}
+SETTINGS = {**SHAPES, **KNOTS, **SERVERS, **PAIRS, **DENSE, **NESTED, **TURNS, **WRITERS, **SPARSE, **FINDINGS, **NAMES}
 GENERAL = dict(
     threads=8, locks=16, depth=2, sections=20, disorder=0.1, is_ring=False, locations=500, name_length=0,
     waves=0, rejoins=0, others=0.3, strays=0.0005, shared=0,
@@ -348,6 +353,30 @@ def phases(options):
         yield from (f"main|join({thread})|Main.java:6" for thread in its_threads)
 
 
+def barriers(options):
+    """At a barrier each thread forks one that does nothing, and joins those of all."""
+    draw = random.Random(options.seed)
+    threads = [f"T{t}" for t in range(options.threads // (options.waves + 1))]
+    for wave in range(options.waves):
+        for thread in threads:
+            for section in range(max(1, options.sections // (len(threads) * options.waves))):
+                locks = sorted(drawn_locks(draw, options, options.depth), reverse=wave % 2 == 1)
+                yield from nested(thread, f"Piece{section % 60}.java", locks)
+        yield from (f"{thread}|fork({thread}.{wave})|Barrier.java:5" for thread in threads)
+        yield from (f"{thread}|join({other}.{wave})|Barrier.java:6" for thread in threads for other in threads)
+
+
+def writers(options):
+    draw = random.Random(options.seed)
+    for section in range(options.sections):
+        thread, locks = f"T{draw.randrange(options.threads)}", drawn_locks(draw, options, options.depth)
+        is_reader = draw.random() < options.shared
+        shared, file = "r" * is_reader, f"{'Read' if is_reader else 'Write'}{section % 30}.java"
+        yield f"{thread}|{shared}acq(table)|{file}:5"
+        yield from nested(thread, file, sorted(locks) if is_reader else locks)
+        yield f"{thread}|{shared}rel(table)|{file}:6"
+
+
 def tree(options):
     """The locks below one are as many as --depth says, so that it is a star where that is one less than there are locks."""
     for t in range(options.threads):
@@ -563,6 +592,8 @@ MADE_BY = {
     "nested-locks": nested_locks,
     "windows": windows,
     "phases": phases,
+    "barriers": barriers,
+    "writers": writers,
     "tree": tree,
     "layers": layers,
     "item-locks": lambda options: Server(options).cache(),
@@ -622,7 +653,7 @@ def mistake(options):
     for name, least, most in [
         ("events", 0, 10**9), ("threads", threads, 1_024), ("locks", 1, 10**8), ("depth", 1, 64),
         ("sections", 1, 10**8), ("disorder", 0, 1), ("name_length", 0, 30_000), ("locations", 1, 10**8),
-        ("others", 0, 0.95), ("strays", 0, 1), ("waves", 1 if shape == "phases" else 0, 1_023), ("rejoins", 0, 10**8),
+        ("others", 0, 0.95), ("strays", 0, 1), ("waves", 1 if shape in ("phases", "barriers") else 0, 1_023), ("rejoins", 0, 10**8),
         ("shared", 0, 1), ("segments", 1, 10**6), ("gates", 1, 60), ("at_once", 1, 1_023),
         ("events_a_section", 0, 10**6), ("tried", 0, 1), ("common", 0, 10**8),
     ]:  # fmt: skip
@@ -631,13 +662,15 @@ def mistake(options):
     is_dense_amiss = shape in DENSE and not 2 <= options.locks <= 64
     is_knot_amiss = shape in KNOTS and (options.sections < 3 or options.gates >= options.sections)
     is_sparse_amiss = shape == "tree" and options.locks < 2 or shape == "layers" and options.depth < 2
-    is_too_deep = shape in NESTED and options.is_gated and options.depth == 64
+    is_too_deep = (shape in NESTED and options.is_gated or shape in WRITERS) and options.depth == 64
+    is_alone = shape == "barriers" and options.threads < 2 * (options.waves + 1)
     for is_amiss, why in [
         (options.is_ring and options.depth > options.locks, "--depth is at most --locks in a ring"),
         (is_dense_amiss, "a dense graph has 2 to 64 --locks, as a thread may hold so many"),
-        (is_too_deep, "--depth is at most 63 under a gate lock, as a thread may hold 64 locks"),
+        (is_too_deep, "--depth is at most 63 under another lock, as a thread may hold 64 locks"),
         (is_sparse_amiss, "a tree has --locks from 2 on, and layers have --depth from 2 on"),
         (is_knot_amiss, "a knot has three --sections or more, and fewer --gates"),
+        (is_alone, "of --threads two or more meet, and each has another one for each of --waves"),
     ]:
         if is_amiss:
             return why

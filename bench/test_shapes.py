@@ -23,7 +23,7 @@ PROGRAM = os.environ.get("PROGRAM", BENCH.parent / "prebuilt" / "goodlock")
 SERVER = BENCH / "traces" / "cache-server.std.xz"
 SHAPES = sorted(make_trace.SERVERS)
 DENSE = sorted(make_trace.DENSE)
-DRAWN = sorted({**make_trace.NESTED, **make_trace.TURNS})
+DRAWN = sorted({**make_trace.NESTED, **make_trace.TURNS, **make_trace.WRITERS})
 SEARCH_LEAST = ("--len", "2", "--max", "1")
 SAMPLES = sorted({*(BENCH.parent / "samples").glob("*.std")} - {BENCH.parent / "samples" / "bad_line.std"})  # refused
 COUNTS = ("events", "threads", "locks", "segments", "edges")
@@ -244,8 +244,46 @@ def test_each_wave_of_phases_has_one_order():
     assert orders == [{True}, {False}, {True}, {False}, {True}]
 
 
+def test_between_two_barriers_there_is_one_order_and_at_each_all_meet():
+    orders, outer, made_here, waited = [set()], {}, set(), {}
+    for thread, word, name in calls_of(trace_of("barriers")):
+        if word == "acq":
+            held = outer.setdefault(thread, [])
+            orders[-1] |= {lock < name for lock in held}
+            held.append(name)
+        elif word == "rel":
+            outer[thread].pop()
+        elif word == "fork":
+            made_here |= {name}
+        else:
+            waited.setdefault(thread, set()).add(name)
+        if len(waited) == 6 and all(names == made_here for names in waited.values()):
+            orders, made_here, waited = [*orders, set()], set(), {}
+    assert orders == [{True}, {False}] * 10 + [set()]
+
+
+def test_readers_take_locks_in_order_and_writers_keep_all_out():
+    readers, orders, modes = 0, {"acq": set(), "racq": set()}, set()
+    for _, word, name in calls_of(trace_of("writers")):
+        if name == "table":
+            mode, held = word, []
+            modes |= {word}
+            readers += word == "racq"
+        elif word == "acq":
+            orders[mode] |= {lock < name for lock in held}
+            held.append(name)
+    assert orders == {"racq": {True}, "acq": {True, False}} and modes == {"acq", "rel", "racq", "rrel"}
+    assert 0.65 * 3_000 < readers < 0.75 * 3_000
+
+
 @pytest.mark.parametrize(
-    "options", [("windows", "--at-once", "1"), ("phases", "--threads", "100", "--sections", "400")]
+    "options",
+    [
+        ("windows", "--at-once", "1"),
+        ("phases", "--threads", "100", "--sections", "400"),
+        ("barriers", "--threads", "126", "--sections", "240"),
+        ("writers", "--sections", "1000"),
+    ],
 )
 def test_threads_of_which_none_are_there_at_once_or_at_odds_have_no_cycle(options):
     shape, *words = options
