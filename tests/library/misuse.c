@@ -19,6 +19,7 @@
 #include <stdlib.h>
 #include <string.h>
 #include <sys/wait.h>
+#include <time.h>
 #include <unistd.h>
 
 /* Makes a call; where memory is refused in it, and it says so, once more with ample memory. */
@@ -698,13 +699,13 @@ static void names(void)
 
 /* ---- Leaving in mid-course */
 
-enum { LONG_RING = 16384, FORKS = 5, MOST_FORKS = 200, MOST_PULLS = 200 };
+enum { LONG_RING = 16384, FORKS = 5, FORK_SECONDS = 60 };
 
-/* A thread that records while the main thread forks. */
+/* A thread that records while the main thread forks or pulls. */
 struct beside {
     goodlock_lane *lane;
     _Atomic bool is_over;
-    _Atomic unsigned recorded, wrong;
+    _Atomic unsigned recorded, full, wrong; /* full: how often its lane had no room */
 };
 
 /* Acquires b and then a, again and again, and closes its lane in the end. */
@@ -716,8 +717,11 @@ static void *record_beside(void *argument)
     uint32_t code, at;
     while (!beside->is_over)
         for (int i = 0; i < 4; i++) {
-            while ((code = goodlock_record(beside->lane, steps[i][0], steps[i][1], steps[i][2], &at)) == GOODLOCK_FULL)
+            while ((code = goodlock_record(beside->lane, steps[i][0], steps[i][1], steps[i][2], &at)) ==
+                   GOODLOCK_FULL) {
+                beside->full++;
                 sched_yield();
+            }
             beside->wrong += code != GOODLOCK_OK || at != beside->recorded;
             beside->recorded++;
         }
@@ -749,6 +753,27 @@ static bool fork_once(struct beside *beside)
     return has_recorded;
 }
 
+static time_t seconds(void)
+{
+    struct timespec now;
+    clock_gettime(CLOCK_MONOTONIC, &now);
+    return now.tv_sec;
+}
+
+/* Forks until the other thread has recorded meanwhile so many times; how many events were pulled before, so that there
+ * is room. On one processor that takes some hundred forks: nothing but the end of its time makes this thread pause. */
+static unsigned fork_beside(goodlock_session *session, struct beside *beside)
+{
+    const time_t end = seconds() + FORK_SECONDS;
+    unsigned events = 0, beside_forks = 0;
+    while (beside_forks < FORKS && seconds() < end) {
+        events += pull_once(session).events;
+        beside_forks += fork_once(beside);
+    }
+    check(beside_forks == FORKS, "the other thread records while this one forks, five times within a minute");
+    return events;
+}
+
 static void in_a_child(void)
 {
     goodlock_session session;
@@ -757,7 +782,7 @@ static void in_a_child(void)
     goodlock_pulled pulled;
     struct beside beside = {.lane = &lanes[1]};
     pthread_t thread;
-    unsigned events = 0, beside_forks = 0;
+    unsigned events;
     uint32_t at, ended = 0;
     open_two(&session, lanes, LONG_RING);
     acquire_two(&lanes[0], 0, 1);
@@ -765,11 +790,7 @@ static void in_a_child(void)
     check(pthread_create(&thread, NULL, record_beside, &beside) == 0, "a thread is started");
     while (beside.recorded == 0)
         sched_yield();
-    for (int i = 0; i < MOST_FORKS && beside_forks < FORKS; i++) {
-        events += pull_once(&session).events; /* so that there is room */
-        beside_forks += fork_once(&beside);
-    }
-    check(beside_forks == FORKS, "the other thread records while this one forks");
+    events = fork_beside(&session, &beside);
     release_two(&lanes[0], 1, 0);
     expect("close", goodlock_close(&lanes[0]), GOODLOCK_OK);
     beside.is_over = true;
@@ -791,7 +812,21 @@ static void in_a_child(void)
     goodlock_session_free(&session);
 }
 
-/* A pull off one lane takes more than its ring holds where the thread goes on meanwhile. */
+static struct beside *pulled_off; /* whose lane, which was full, is pulled off */
+static bool has_gone_on;          /* whether it recorded in the middle of the pull */
+
+/* In the middle of the pull this thread waits until the other one has recorded what there is room for. Where its lane
+ * is full for two records, the second of which began after this call, there is none. */
+static void let_it_go_on(void)
+{
+    const unsigned full = pulled_off->full;
+    while (pulled_off->full < full + 2)
+        sched_yield();
+    has_gone_on |= pulled_off->recorded > LONG_RING;
+}
+
+/* A pull off one lane takes more than its ring holds where the thread goes on meanwhile: as it does here whenever the
+ * pull asks for memory, which it does again and again for so many events. */
 static void beyond_a_ring(void)
 {
     goodlock_session session;
@@ -799,16 +834,18 @@ static void beyond_a_ring(void)
     goodlock_pulled pulled = {0, 0};
     struct beside beside = {.lane = &lanes[1]};
     pthread_t thread;
-    unsigned events = 0, wrong = 0;
+    unsigned events, wrong = 0;
     open_two(&session, lanes, LONG_RING);
     check(pthread_create(&thread, NULL, record_beside, &beside) == 0, "a thread is started");
-    for (int i = 0; i < MOST_PULLS && pulled.events <= LONG_RING; i++) {
-        while (beside.recorded < events + LONG_RING)
-            sched_yield();
-        wrong += goodlock_pull_lane(&session, 1, 2 * LONG_RING, &pulled) != GOODLOCK_OK;
-        events += pulled.events;
-    }
-    check(pulled.events > LONG_RING, "a lane whose thread goes on gives more than its ring holds");
+    while (beside.recorded < LONG_RING)
+        sched_yield();
+    pulled_off = &beside;
+    when_asked = let_it_go_on;
+    expect("pull", goodlock_pull_lane(&session, 1, 2 * LONG_RING, &pulled), GOODLOCK_OK);
+    when_asked = NULL;
+    events = pulled.events;
+    check(has_gone_on, "a thread records while a pull off its lane asks for memory");
+    check(events > LONG_RING, "a lane whose thread goes on gives more than its ring holds");
     beside.is_over = true;
     while (pulled.ended == 0) {
         wrong += goodlock_pull_lane(&session, 1, 2 * LONG_RING, &pulled) != GOODLOCK_OK;

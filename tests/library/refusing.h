@@ -9,9 +9,12 @@
 static __thread bool is_counted; /* whether this thread is in a call that is tested */
 static __thread long requests, refuse_at;
 static __thread bool is_onwards, was_refused;
+static __thread void (*when_asked)(void); /* what this thread does first when it is asked for memory, or NULL */
 
 static bool refuses(void)
 {
+    if (when_asked != NULL)
+        when_asked();
     if (!is_counted)
         return false;
     requests++;

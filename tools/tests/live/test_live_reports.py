@@ -7,7 +7,7 @@ import subprocess
 import pytest
 from c_programs import MARKS, end, raw_directory
 from following import Live, compare_bytes, cycles_in, lines_of, predicted, read_report, recorded, report_later, reported
-from known_traces import NO_EVENTS, RECORD, compare
+from known_traces import NO_EVENTS, RECORD, compare, wait_for
 
 
 @pytest.mark.parametrize(
@@ -106,12 +106,14 @@ def test_threads_that_come_and_go(path):
 @pytest.mark.parametrize("others, cycles", [(3, 1), (1500, 0)])
 def test_nothing_is_said_of_cycles_across_windows(others, cycles):
     """Threads that no window has together: that no cycle is listed doesn't show that there is none."""
-    done = reported("./live", "far_apart", str(others), options=["--every", "0.2"])
-    assert ("in one of 2 windows" in done.said) == (others > 1000), done.said
-    assert [len(read_report()[key]) for key in ("cycles", "edges")] == [cycles, 0 if others > 1000 else 5], done.said
-    assert [report["trim"] for report in [read_report(), *lines_of()[-1:]]] == [None] * (
-        1 + bool(lines_of())
-    ), done.said
+    live = Live("./live", "far_apart", str(others), options=["--every", "0.2"]).is_ready()
+    before = len(lines_of())
+    wait_for(lambda: len(lines_of()) >= before + 2, "two lines")  # the second one of all threads
+    line = lines_of()[-1]
+    live.end(status=0)
+    assert ("in one of 2 windows" in live.said) == (others > 1000), live.said
+    assert [len(read_report()[key]) for key in ("cycles", "edges")] == [cycles, 0 if others > 1000 else 5], live.said
+    assert [report["trim"] for report in (read_report(), line)] == [None, None], live.said
 
 
 @pytest.mark.parametrize(

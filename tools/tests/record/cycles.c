@@ -158,14 +158,14 @@ static void wakes(void)
     const char *order = getenv("ORDER") ? getenv("ORDER") : "first";
     pthread_t sleeper, other;
     pthread_create(&sleeper, NULL, sleeps, NULL);
-    usleep(50000);
+    wait_for_others();
     if (strcmp(order, "first") == 0) {
         ready = 1;
         pthread_cond_signal(&condition);
-        usleep(50000);
+        wait_for_others();
     }
     pthread_create(&other, NULL, takes_both, NULL);
-    usleep(200000);
+    wait_for_others();
     if (strcmp(order, "late") == 0) {
         ready = 1;
         pthread_cond_signal(&condition);

@@ -463,9 +463,10 @@ static void comes_twice(void)
 }
 
 /* The first and the last thread take two locks in opposite orders. So many others come and go in between that do the same with locks
- * of which they make no cycle. */
+ * of which they make no cycle. Then it waits until standard input ends. */
 static void far_apart(void)
 {
+    char line[16];
     pthread_t first, other;
     pthread_create(&first, NULL, one_way, NULL);
     wait_for_others();
@@ -474,6 +475,9 @@ static void far_apart(void)
         pthread_join(other, NULL);
     }
     pthread_join(first, NULL);
+    say_ready();
+    while (fgets(line, sizeof line, stdin))
+        continue;
 }
 
 /* The same with many locks below a gate. */

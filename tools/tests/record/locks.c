@@ -801,11 +801,13 @@ static void raw_fork(void)
 }
 
 static pid_t forked;
+static volatile sig_atomic_t has_forked; /* in both processes */
 
 static void forks_here(int number)
 {
     (void)number;
     forked = fork();
+    has_forked = 1;
 }
 
 /* Holds the lock, and meanwhile sends a signal to the thread that waits for it. */
@@ -813,7 +815,7 @@ static void *holds_and_signals(void *waiting)
 {
     pthread_mutex_lock(&a);
     sem_post(&step);
-    usleep(50000);
+    wait_for_others();
     pthread_kill(*(pthread_t *)waiting, SIGUSR1);
     sem_wait(&other_step);
     pthread_mutex_unlock(&a);
@@ -829,8 +831,10 @@ static void forks_in_handler(void)
     pthread_mutex_lock(&b);                                                    /* @handler_b */
     pthread_create(&thread, NULL, holds_and_signals, &own);                    /* @handler_fork */
     sem_wait(&step);
-    struct timespec soon = after(CLOCK_REALTIME, 200);
-    MUST(pthread_mutex_timedlock(&a, &soon) == ETIMEDOUT);
+    while (!has_forked) {
+        struct timespec soon = after(CLOCK_REALTIME, 200);
+        MUST(pthread_mutex_timedlock(&a, &soon) == ETIMEDOUT);
+    }
     pthread_mutex_lock(&many[0]);                                              /* @handler_many */
     pthread_mutex_unlock(&many[0]);                                            /* @handler_many_end */
     pthread_mutex_unlock(&b);                                                  /* @handler_b_end */

@@ -8,6 +8,14 @@
 
 static pthread_mutex_t a = PTHREAD_MUTEX_INITIALIZER;
 static int initialisations;
+static int has_ended;
+
+// Until the first thread has come to its end, however slow the machine is; or for a fifth of a second, where somebody holds it up.
+static void wait_for_first()
+{
+    for (int looks = 0; looks < 200 && !__atomic_load_n(&has_ended, __ATOMIC_RELAXED); looks++)
+        usleep(1000);
+}
 
 struct Takes {
     Takes()
@@ -29,6 +37,7 @@ static int has_static()
 static void *initialises(void *)
 {
     has_static();
+    __atomic_store_n(&has_ended, 1, __ATOMIC_RELAXED);
     return nullptr;
 }
 
@@ -45,7 +54,7 @@ static void visited_later()
 {
     pthread_t first, second;
     pthread_create(&first, nullptr, initialises, nullptr);      // @first_fork
-    usleep(100000);
+    wait_for_first();
     pthread_create(&second, nullptr, visits, nullptr);          // @second_fork
     pthread_join(first, nullptr);                               // @first_join
     pthread_join(second, nullptr);                              // @second_join
@@ -63,6 +72,7 @@ static void uses_a()
 static void *runs_routine(void *)
 {
     pthread_once(&control, uses_a);
+    __atomic_store_n(&has_ended, 1, __ATOMIC_RELAXED);
     return nullptr;
 }
 
@@ -79,7 +89,7 @@ static void routine_later()
 {
     pthread_t first, second;
     pthread_create(&first, nullptr, runs_routine, nullptr);
-    usleep(100000);
+    wait_for_first();
     pthread_create(&second, nullptr, comes_second, nullptr);
     pthread_join(first, nullptr);
     pthread_join(second, nullptr);
