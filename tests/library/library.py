@@ -6,8 +6,8 @@
 The headers are compiled alone as C and as C++. The numbers and types of goodlock.h have to be those of crates/gl_c;
 header.c is of its short forms and its words. Each example of library/examples prints its known report. The blocks of
 docs/EMBEDDING.md are compiled and run as they stand there, and its commands are typed, but for what is installed.
-sessions.c records random sessions in running threads; each report's text and JSON has to be what PROGRAM says of the
-trace of what was recorded, byte for byte. Some hundred of them run under AddressSanitizer, ThreadSanitizer and Valgrind.
+sessions.c records random sessions in running threads; the text and JSON of each report, of cycles and of findings, has to be
+what PROGRAM says of the trace of what was recorded, byte for byte. Some hundred of them run under AddressSanitizer, ThreadSanitizer and Valgrind.
 misuse.c uses each call wrongly, refuses memory, forks and leaves in mid-course; partial.c leaves events out, and goes
 on in a second session; order.c tells the same by numbers in two orders, and their reports by mention have to be the
 same; wrapper.cc, forms.cc and busy.cc are of goodlock.hpp, names.c of goodlock_names.h, as C and as C++, by many threads and by all short
@@ -23,6 +23,7 @@ CASES     how many random sessions     (3000, as --cases)
 import argparse
 import collections
 import concurrent.futures
+import functools
 import os
 import pathlib
 import re
@@ -397,25 +398,30 @@ class Tests:
             )
         return done.stdout, done.stderr, done.returncode
 
-    def compared(self, line, folder):
+    def compared(self, line, folder, predicted):
         """What is wrong with the report that a line of the driver tells; nothing where all is well."""
-        name, *numbers = line.split()
-        mode, length, most, code, cycles, more = map(int, numbers)
-        trace = folder / f"{name}.std"
-        text, errors, status = self.predicted(trace, mode, length, most)
+        name, trace, listed, *numbers = line.split()
+        mode, length, most, code, count, more = map(int, numbers)
+        asked = (folder / f"{trace}.std", mode, length, most, *(["--findings"] if listed == "findings" else []))
+        text, errors, status = predicted(*asked)
         if code == INCONSISTENT or status > 1:
             is_so = code == INCONSISTENT and status == 2 and errors.startswith(b"goodlock: inconsistent: ")
             return None if is_so else f"{name}: code {code}, and {errors!r} of the program"
         if code != 0:
             return f"{name}: code {code}"
         if text != (folder / f"{name}.text").read_bytes():
-            return f"{name}: another text than that of `predict` on {trace}"
-        if text.splitlines()[-1] != f"cycles: {cycles}{' (more)' * more}".encode():
-            return f"{name}: {cycles} cycles are told, more: {more}, and the text ends with {text.splitlines()[-1]!r}"
-        json = self.predicted(trace, mode, length, most, "--json")[0]
+            return f"{name}: another text of {listed} than that of `predict` on {trace}.std"
+        if text.splitlines()[-1] != f"{listed}: {count}{' (more)' * more}".encode():
+            return f"{name}: {count} {listed} are told, more: {more}, and the text ends with {text.splitlines()[-1]!r}"
+        json = predicted(*asked, "--json")[0]
         if json != (folder / f"{name}.json").read_bytes():
-            return f"{name}: another JSON than that of `predict --json` on {trace}"
+            return f"{name}: another JSON of {listed} than that of `predict --json` on {trace}.std"
         return None
+
+    def all_compared(self, lines, folder):
+        """The same of all reports of a trace, of which the program is asked once for each form."""
+        predicted = functools.lru_cache(None)(self.predicted)
+        return [self.compared(line, folder, predicted) for line in lines]
 
     def batch(self, driver, first, last, prefix=(), **more):
         """Runs some sessions; their faults and the number of reports."""
@@ -425,14 +431,17 @@ class Tests:
             if done.status != 0 or done.errors:
                 faults.append(f"sessions {first} to {last}: status {done.status}\n{done.errors[-3000:]}")
             lines = done.output.splitlines()
+            traces = collections.defaultdict(list)
+            for line in lines:
+                traces[line.split()[1]].append(line)
             with concurrent.futures.ThreadPoolExecutor(2) as pool:
-                found = list(pool.map(lambda line: self.compared(line, pathlib.Path(place)), lines))
-        faults += [fault for fault in found if fault is not None]
+                found = list(pool.map(lambda of: self.all_compared(of, pathlib.Path(place)), traces.values()))
+        faults += [fault for of_trace in found for fault in of_trace if fault is not None]
         return (
             faults,
             len(lines),
-            sum(line.split()[4] == str(INCONSISTENT) for line in lines),
-            sum(line.split()[5] != "0" for line in lines),
+            sum(line.split()[6] == str(INCONSISTENT) for line in lines),
+            sum(line.split()[7] != "0" for line in lines),
         )
 
     def sessions_by(self, name, driver, cases, prefix=(), **more):
@@ -444,7 +453,7 @@ class Tests:
             self.passed += max(0, last - first - len(faults))
             for fault in faults:
                 self.check(f"{name}", False, fault)
-        print(f"{name}: {cases} sessions, {reports} reports, {cyclic} with cycles, {inconsistent} inconsistent")
+        print(f"{name}: {cases} sessions, {reports} reports, {cyclic} that list some, {inconsistent} inconsistent")
 
     def driver(self, output, *words):
         source = HERE / "sessions.c"
@@ -483,7 +492,7 @@ class Tests:
         for name, words in SANITIZERS.items():
             c = ["g++", "-std=c++17", "-O1", "-g", *STRICT, f"-I{HEADERS}", *words, source, ARCHIVE, *WRAPS]
             if self.build(f"wrapper_{name}", *c, "-lpthread"):
-                for word in ("locks", "names", "memory", "threads", "leave"):
+                for word in ("locks", "names", "findings", "memory", "threads", "leave"):
                     self.counted(f"wrapper, {word}, {name}", f"wrapper_{name}", word, env=environment)
             self.busy(name, "g++", "c++11", *words)
             if name != "thread":  # gcc's doesn't know pthread_mutex_clocklock, by which std's limits of time go
@@ -638,7 +647,7 @@ class Tests:
             if name == "address":  # its compiler takes half a minute for this file
                 continue
             if self.build(f"debug_wrapper_{name}", "g++", "-std=c++17", HERE / "wrapper.cc", *rest, *WRAPS):
-                for word in ("locks", "names", "memory", "threads"):
+                for word in ("locks", "names", "findings", "memory", "threads"):
                     self.counted(f"debug, wrapper, {word}, {name}", f"debug_wrapper_{name}", word, env=environment)
                 self.left(f"debug, wrapper, leave, {name}", 1, f"debug_wrapper_{name}", "leave")
             self.busy(f"debug {name}", "g++", "c++17", DEBUG, *more)
