@@ -3,7 +3,8 @@
  * A session has a lane for each thread that is recorded. The thread records its events into its lane, which never waits
  * and takes no memory; one collecting thread pulls them off all lanes while the program runs. From what was pulled
  * comes a report of the deadlocks that another schedule of the same events could lead to: so far, at any time, or
- * settled, once every lane was closed and handed in, when no event is missing.
+ * settled, once every lane was closed and handed in, when no event is missing. It lists cycles, or findings: cycles
+ * that were made at the same places are one finding.
  *
  *     goodlock_session session = {0};                           // the collecting thread
  *     goodlock_open(1, 2, 256, &session);
@@ -209,6 +210,16 @@ uint32_t goodlock_pull_lane(goodlock_session *session, uint32_t thread, uint32_t
 uint32_t goodlock_report_so_far(goodlock_session *session, uint32_t mode, uint32_t length, uint32_t number,
                                 goodlock_report *report);
 
+/* The same, of findings: at most `number` of them are listed, in place of cycles. A finding is all cycles whose edges
+   were made at the same pairs of places, one after the other round the cycle, whatever their threads and locks, and is
+   shown by the first of these cycles: so it is what somebody has to look at, where threads that run the same code over
+   many locks have thousands of cycles. Two places are the same where they have one number. Such a report is printed,
+   counted and freed as others are. It costs what a run of `goodlock predict --findings` costs on that much: with many
+   pairs of places it may be far more than cycles cost, the more the greater `length` is (docs/USAGE.md). Answers as
+   goodlock_report_so_far. */
+uint32_t goodlock_findings_so_far(goodlock_session *session, uint32_t mode, uint32_t length, uint32_t number,
+                                  goodlock_report *report);
+
 /* Takes back a lane that was closed. A look at each lane that was handed in before, and 48 bytes of memory, or up to
    twice that where the list of them has just grown; the 1.7 KB of the lane are given back.
    OK: the lane is all zero. MISUSE (a lane that isn't closed, or a session that is settled, too), MEMORY, STRANGE: it
@@ -230,37 +241,48 @@ uint32_t goodlock_settle(goodlock_session *session, uint32_t *thread);
 uint32_t goodlock_settled_report(goodlock_session *session, uint32_t mode, uint32_t length, uint32_t number,
                                  goodlock_report *report);
 
-/* The same, with locks and places numbered by first mention: thread 0's list first, event by event, then thread
-   1's, and so on; each new name gets the next number, of an event its lock's before its place's. So where the threads
-   of two runs did the same, by names, the two reports are the same, in whichever order the names were told. (Names that
-   tell equal ones apart by a run's own order, as goodlock_names.h makes "shelf" and "shelf#2", may be swapped in
-   another run, and in its report.) The report keeps its names: it is printed by them. A step for each event and for
-   each byte of a name more.
+/* The same, of findings. Costs and answers as goodlock_findings_so_far does, but MISUSE where the session isn't
+   settled. */
+uint32_t goodlock_settled_findings(goodlock_session *session, uint32_t mode, uint32_t length, uint32_t number,
+                                   goodlock_report *report);
+
+/* The report of a settled session, with locks and places numbered by first mention: thread 0's list first, event by
+   event, then thread 1's, and so on; each new name gets the next number, of an event its lock's before its place's. So
+   where the threads of two runs did the same, by names, the two reports are the same, in whichever order the names were
+   told. (Names that tell equal ones apart by a run's own order, as goodlock_names.h makes "shelf" and "shelf#2", may be
+   swapped in another run, and in its report.) The report keeps its names: it is printed by them. A step for each event
+   and for each byte of a name more than goodlock_settled_report.
    OK, RANGE, INCONSISTENT, MEMORY, MISUSE as above. UNNAMED: a number of a lock or of a place was recorded that was
    given no name (that alone: it is told before memory is asked for); *report is as it was. */
 uint32_t goodlock_report_by_mention(goodlock_session *session, uint32_t mode, uint32_t length, uint32_t number,
                                     goodlock_report *report);
 
-/* The text of a report of this session, as `goodlock predict` prints it, in `buffer` of `size` bytes: all of it
-   where *needed <= size, else nothing. *needed is its length in bytes; there is no zero at the end. (With size
-   0 it asks for the length; the buffer isn't null then either: a byte of yours will do.) Names that are told after the
-   report are known, too. The session was not freed, also where the report has its own names. A step for each byte of
-   the text, also where it doesn't fit: it is made in memory of its own, of up to three times its length, which is given
-   back before the call returns.
+/* The same, of findings, as goodlock_findings_so_far has them. Answers as goodlock_report_by_mention. */
+uint32_t goodlock_findings_by_mention(goodlock_session *session, uint32_t mode, uint32_t length, uint32_t number,
+                                      goodlock_report *report);
+
+/* The text of a report of this session, as `goodlock predict` prints it, or of findings `goodlock predict --findings`,
+   in `buffer` of `size` bytes: all of it where *needed <= size, else nothing. *needed is its length in bytes; there is
+   no zero at the end. (With size 0 it asks for the length; the buffer isn't null then either: a byte of yours will do.)
+   Names that are told after the report are known, too. The session was not freed, also where the report has its own
+   names. A step for each byte of the text, also where it doesn't fit: it is made in memory of its own, of up to three
+   times its length, which is given back before the call returns. Of findings the text tells how many threads and locks
+   there are at their places: each edge of the report is looked at for that, in a finding or not, and 40 to 140 bytes
+   for each are taken and given back, too.
    OK (also where it didn't fit), MEMORY, MISUSE. */
 uint32_t goodlock_text(goodlock_session *session, goodlock_report *report, uint8_t *buffer, size_t size,
                        size_t *needed);
 
-/* The same as one line of JSON, as `goodlock predict --json` prints it: docs/report.schema.json. It has each edge of
-   the report, in a cycle or not, so it may be long where there are no cycles. A step for each byte, and some 24
-   requests for memory for each edge, about ten times as much as the line is long, which is given back before the call
-   returns. */
+/* The same as one line of JSON, as `goodlock predict --json` prints it, or of findings `goodlock predict --findings
+   --json`: docs/report.schema.json, formats 2 and 3. It has each edge of the report, in a cycle or not, so it may be
+   long where there are no cycles. A step for each byte, and some 24 requests for memory for each edge, about ten times
+   as much as the line is long, which is given back before the call returns. */
 uint32_t goodlock_json(goodlock_session *session, goodlock_report *report, uint8_t *buffer, size_t size,
                        size_t *needed);
 
-/* How many cycles the report lists, and whether there are more. One step, and no memory. No session is asked: this
-   call and goodlock_report_free are made on any thread, one at a time for a report, while others work with the session
-   and after it was freed.
+/* How many cycles the report lists, or findings, and whether there are more. One step, and no memory. No session is
+   asked: this call and goodlock_report_free are made on any thread, one at a time for a report, while others work with
+   the session and after it was freed.
    OK, MISUSE. */
 uint32_t goodlock_cycles(goodlock_report *report, size_t *cycles, bool *more);
 

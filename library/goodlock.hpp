@@ -24,6 +24,8 @@
 // - What can't be recorded (more threads than lanes, an event that is refused, as the unlock of a mutex that was locked before
 //   start(), a lock at whose first use the session has no memory for its name) is counted in `unrecorded`, and the lock works all the same.
 // - finish() may be called while threads record: what they do from then on isn't recorded, and the report isn't settled.
+// - finish_with_findings() and findings_so_far() list findings in place of cycles: where threads that run the same code over many
+//   locks have thousands of cycles, each fault once.
 // - After fork() in the child: none of this, only _exit or exec. Not from signal handlers, nor in a memory allocator.
 #ifndef GOODLOCK_HPP
 #define GOODLOCK_HPP
@@ -63,8 +65,8 @@ struct line {
 struct result {
     uint32_t code = GOODLOCK_MISUSE; // GOODLOCK_OK: the rest is right. GOODLOCK_MISUSE: there is no session
     bool is_settled = false;         // no event of a recorded thread is missing but what `unrecorded` counts; else it is the report so far
-    std::string text;                // as `goodlock predict` prints it
-    std::size_t cycles = 0;          // how many it lists
+    std::string text;                // as `goodlock predict` prints it, or `goodlock predict --findings`
+    std::size_t cycles = 0;          // how many it lists, or findings
     bool more = false;               // whether there are more than were asked for
     uint64_t unrecorded = 0;         // events that couldn't be recorded
 };
@@ -75,6 +77,12 @@ constexpr uint32_t NONE = UINT32_MAX;
 
 struct line_hash {
     std::size_t operator()(const line &at) const { return std::hash<const void *>()(at.file) * 31 + at.number; }
+};
+
+// What a report is to list.
+struct question {
+    bool of_findings; // in place of cycles
+    uint32_t mode, length, number;
 };
 
 inline std::string text(const line &at) { return std::string(at.file) + ":" + std::to_string(at.number); }
@@ -165,15 +173,13 @@ public:
         goodlock_lane_free(&lane);
     }
 
-    result so_far(uint32_t mode, uint32_t length, uint32_t number) {
+    result so_far(const question &asked) {
         std::lock_guard<session_mutex> hold(mutex);
-        goodlock_report report = {nullptr};
-        const uint32_t code = goodlock_report_so_far(&session, mode, length, number, &report);
-        return told(code, report, false);
+        return made_report(asked, false);
     }
 
     // The calling thread's lane has ended. Recording stops first, so that what is left to pull comes to an end.
-    result finish(uint32_t mode, uint32_t length, uint32_t number) {
+    result finish(const question &asked) {
         if (!open.exchange(false))
             return result();
         is_ending = true;
@@ -183,10 +189,7 @@ public:
         pull_rest();
         uint32_t missing;
         const bool is_settled = goodlock_settle(&session, &missing) == GOODLOCK_OK;
-        goodlock_report report = {nullptr};
-        const uint32_t code = is_settled ? goodlock_settled_report(&session, mode, length, number, &report)
-                                         : goodlock_report_so_far(&session, mode, length, number, &report);
-        const result answer = told(code, report, is_settled);
+        const result answer = made_report(asked, is_settled);
         goodlock_session_free(&session);
         return answer;
     }
@@ -199,7 +202,7 @@ private:
 
     static const uint8_t *bytes(const std::string &name) { return reinterpret_cast<const uint8_t *>(name.data()); }
 
-    // These four are called by who has the mutex.
+    // These five are called by who has the mutex.
 
     uint32_t next_lane(goodlock_lane &lane) {
         uint32_t number = NONE;
@@ -234,6 +237,15 @@ private:
         if (pulled.ended > 0)
             has_ended.set(lane);
         return pulled.events + pulled.ended;
+    }
+
+    result made_report(const question &asked, bool is_settled) {
+        goodlock_report report = {nullptr};
+        const auto make_so_far = asked.of_findings ? goodlock_findings_so_far : goodlock_report_so_far;
+        const auto make_settled = asked.of_findings ? goodlock_settled_findings : goodlock_settled_report;
+        const auto make = is_settled ? make_settled : make_so_far;
+        const uint32_t code = make(&session, asked.mode, asked.length, asked.number, &report);
+        return told(code, report, is_settled);
     }
 
     // The collecting thread's.
@@ -501,7 +513,12 @@ inline uint32_t start(uint32_t threads = 64, uint32_t ring = 4096, uint64_t numb
 
 // The report of what was pulled so far. Threads go on; those whose lane is full wait for it.
 inline result report_so_far(uint32_t mode = GOODLOCK_FULL_MODE, uint32_t length = 4, uint32_t number = 1000) {
-    return detail::world::get().so_far(mode, length, number);
+    return detail::world::get().so_far({false, mode, length, number});
+}
+
+// The same, of findings: cycles that were made at the same places are one.
+inline result findings_so_far(uint32_t mode = GOODLOCK_FULL_MODE, uint32_t length = 4, uint32_t number = 1000) {
+    return detail::world::get().so_far({true, mode, length, number});
 }
 
 // Ends the recording and answers its report: settled where all threads that were recorded have ended, but for the
@@ -509,7 +526,13 @@ inline result report_so_far(uint32_t mode = GOODLOCK_FULL_MODE, uint32_t length 
 // closed then.
 inline result finish(uint32_t mode = GOODLOCK_FULL_MODE, uint32_t length = 4, uint32_t number = 1000) {
     detail::mine::finish();
-    return detail::world::get().finish(mode, length, number);
+    return detail::world::get().finish({false, mode, length, number});
+}
+
+// The same, of findings.
+inline result finish_with_findings(uint32_t mode = GOODLOCK_FULL_MODE, uint32_t length = 4, uint32_t number = 1000) {
+    detail::mine::finish();
+    return detail::world::get().finish({true, mode, length, number});
 }
 
 using mutex = detail::recorded<std::mutex>;

@@ -21,7 +21,8 @@
  * - No call on a thread that is in a call: from a signal handler, from a memory allocator.
  * - No call in the child of a fork(), where a call was made before in the parent.
  * - No pointer is null, and what is written to doesn't overlap with anything else that is handed over.
- * - A report's text is made by its own session, unless the report has its own names (goodlock_report_by_mention).
+ * - A report's text is made by its own session, unless the report has its own names (goodlock_report_by_mention,
+ *   goodlock_findings_by_mention).
  * - At the end of the program, after its atexit handlers and the destructors of its static objects: all that was opened
  *   was given back. (Not where it ends by _exit or a signal, nor in a child of fork().)
  *
@@ -666,7 +667,7 @@ static inline uint32_t goodlock_debug_pull_lane_(goodlock_session *session, uint
 
 typedef uint32_t goodlock_debug_reporting_(goodlock_session *, uint32_t, uint32_t, uint32_t, goodlock_report *);
 
-/* Makes a report: its mode, the greatest length of a cycle, and the most cycles. */
+/* Makes a report: its mode, the greatest length of a cycle, and the most cycles or findings. */
 static inline uint32_t goodlock_debug_report_(const char *words, goodlock_debug_reporting_ *call_by, bool is_mentioned,
                                               goodlock_session *session, const uint32_t asked[3],
                                               goodlock_report *report)
@@ -692,6 +693,13 @@ static inline uint32_t goodlock_debug_report_so_far_(goodlock_session *session, 
     return goodlock_debug_report_("goodlock_report_so_far", goodlock_report_so_far, false, session, asked, report);
 }
 
+static inline uint32_t goodlock_debug_findings_so_far_(goodlock_session *session, uint32_t mode, uint32_t length,
+                                                       uint32_t number, goodlock_report *report)
+{
+    const uint32_t asked[3] = {mode, length, number};
+    return goodlock_debug_report_("goodlock_findings_so_far", goodlock_findings_so_far, false, session, asked, report);
+}
+
 static inline uint32_t goodlock_debug_settled_report_(goodlock_session *session, uint32_t mode, uint32_t length,
                                                       uint32_t number, goodlock_report *report)
 {
@@ -699,11 +707,27 @@ static inline uint32_t goodlock_debug_settled_report_(goodlock_session *session,
     return goodlock_debug_report_("goodlock_settled_report", goodlock_settled_report, false, session, asked, report);
 }
 
+static inline uint32_t goodlock_debug_settled_findings_(goodlock_session *session, uint32_t mode, uint32_t length,
+                                                        uint32_t number, goodlock_report *report)
+{
+    const uint32_t asked[3] = {mode, length, number};
+    return goodlock_debug_report_("goodlock_settled_findings", goodlock_settled_findings, false, session, asked,
+                                  report);
+}
+
 static inline uint32_t goodlock_debug_report_by_mention_(goodlock_session *session, uint32_t mode, uint32_t length,
                                                          uint32_t number, goodlock_report *report)
 {
     const uint32_t asked[3] = {mode, length, number};
     return goodlock_debug_report_("goodlock_report_by_mention", goodlock_report_by_mention, true, session, asked,
+                                  report);
+}
+
+static inline uint32_t goodlock_debug_findings_by_mention_(goodlock_session *session, uint32_t mode, uint32_t length,
+                                                           uint32_t number, goodlock_report *report)
+{
+    const uint32_t asked[3] = {mode, length, number};
+    return goodlock_debug_report_("goodlock_findings_by_mention", goodlock_findings_by_mention, true, session, asked,
                                   report);
 }
 
@@ -848,8 +872,11 @@ static inline uint32_t goodlock_debug_close_(goodlock_lane *lane)
 #define goodlock_pull goodlock_debug_pull_
 #define goodlock_pull_lane goodlock_debug_pull_lane_
 #define goodlock_report_so_far goodlock_debug_report_so_far_
+#define goodlock_findings_so_far goodlock_debug_findings_so_far_
 #define goodlock_settled_report goodlock_debug_settled_report_
+#define goodlock_settled_findings goodlock_debug_settled_findings_
 #define goodlock_report_by_mention goodlock_debug_report_by_mention_
+#define goodlock_findings_by_mention goodlock_debug_findings_by_mention_
 #define goodlock_hand_in goodlock_debug_hand_in_
 #define goodlock_settle goodlock_debug_settle_
 #define goodlock_text goodlock_debug_text_

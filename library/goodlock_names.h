@@ -32,7 +32,7 @@
  * Numbers are 0, 1, 2, .. without a gap, in the order in which the names were first mentioned: two threads that mention
  * one new name at once get the same number, and no number is given twice. That order may be another one in each run,
  * and numbers order the edges of a report: a report that is the same for each run of the same events is made by
- * goodlock_report_by_mention, where the names are all different.
+ * goodlock_report_by_mention, or of findings goodlock_findings_by_mention, where the names are all different.
  *
  * A table serves the locks of a session, or its places; one session after the other, too, which then have the same
  * numbers. Nobody else numbers names of that kind in the session.

@@ -199,14 +199,29 @@ static void make_report_so_far(void **at)
     goodlock_report_so_far((goodlock_session *)at[0], 2, 4, 10, (goodlock_report *)at[1]);
 }
 
+static void make_findings_so_far(void **at)
+{
+    goodlock_findings_so_far((goodlock_session *)at[0], 2, 4, 10, (goodlock_report *)at[1]);
+}
+
 static void make_settled_report(void **at)
 {
     goodlock_settled_report((goodlock_session *)at[0], 2, 4, 10, (goodlock_report *)at[1]);
 }
 
+static void make_settled_findings(void **at)
+{
+    goodlock_settled_findings((goodlock_session *)at[0], 2, 4, 10, (goodlock_report *)at[1]);
+}
+
 static void make_report_by_mention(void **at)
 {
     goodlock_report_by_mention((goodlock_session *)at[0], 2, 4, 10, (goodlock_report *)at[1]);
+}
+
+static void make_findings_by_mention(void **at)
+{
+    goodlock_findings_by_mention((goodlock_session *)at[0], 2, 4, 10, (goodlock_report *)at[1]);
 }
 
 static void make_hand_in(void **at)
@@ -271,8 +286,11 @@ static const struct call {
     {"goodlock_pull", make_pull, {"session", "pulled", NULL, NULL}},
     {"goodlock_pull_lane", make_pull_lane, {"session", "pulled", NULL, NULL}},
     {"goodlock_report_so_far", make_report_so_far, {"session", "report", NULL, NULL}},
+    {"goodlock_findings_so_far", make_findings_so_far, {"session", "report", NULL, NULL}},
     {"goodlock_settled_report", make_settled_report, {"session", "report", NULL, NULL}},
+    {"goodlock_settled_findings", make_settled_findings, {"session", "report", NULL, NULL}},
     {"goodlock_report_by_mention", make_report_by_mention, {"session", "report", NULL, NULL}},
+    {"goodlock_findings_by_mention", make_findings_by_mention, {"session", "report", NULL, NULL}},
     {"goodlock_hand_in", make_hand_in, {"session", "lane", NULL, NULL}},
     {"goodlock_settle", make_settle, {"session", "thread", NULL, NULL}},
     {"goodlock_text", make_text, {"session", "report", "buffer", "needed"}},
@@ -594,6 +612,19 @@ static void try_call(const struct call *call)
 
 static goodlock_session second;
 
+/* Begins, and settles the session; there is no report then. */
+static void settle_all(void)
+{
+    begin();
+    expect("hand in", goodlock_hand_in(&world.session, &world.lane), GOODLOCK_OK);
+    expect("lane", goodlock_lane_open(&world.session, &world.lane, &world.thread), GOODLOCK_OK);
+    expect("close", goodlock_close(&world.lane), GOODLOCK_OK);
+    expect("pull", goodlock_pull(&world.session, 10, &world.pulled), GOODLOCK_OK);
+    expect("hand in", goodlock_hand_in(&world.session, &world.lane), GOODLOCK_OK);
+    expect("settle", goodlock_settle(&world.session, &world.thread), GOODLOCK_OK);
+    goodlock_report_free(&world.report);
+}
+
 static void open_the_same_number(void)
 {
     begin();
@@ -690,6 +721,23 @@ static void use_the_latest_rest(void)
 static void print_by_another_session(void)
 {
     begin();
+    expect("open", goodlock_open(8, 1, 1, &second), GOODLOCK_OK);
+    goodlock_text(&second, &world.report, world.buffer, sizeof world.buffer, &world.needed);
+}
+
+static void print_findings_by_another_session(void)
+{
+    begin();
+    goodlock_report_free(&world.report);
+    expect("findings", goodlock_findings_so_far(&world.session, 2, 4, 10, &world.report), GOODLOCK_OK);
+    expect("open", goodlock_open(8, 1, 1, &second), GOODLOCK_OK);
+    goodlock_json(&second, &world.report, world.buffer, sizeof world.buffer, &world.needed);
+}
+
+static void print_settled_findings_by_another_session(void)
+{
+    settle_all();
+    expect("findings", goodlock_settled_findings(&world.session, 2, 4, 10, &world.report), GOODLOCK_OK);
     expect("open", goodlock_open(8, 1, 1, &second), GOODLOCK_OK);
     goodlock_text(&second, &world.report, world.buffer, sizeof world.buffer, &world.needed);
 }
@@ -797,6 +845,10 @@ static void try_rest(void)
               "lane 599 of session 11 was given back by goodlock_lane_free");
     try_alone("goodlock_text", print_by_another_session, "the text of a report is made by its own session",
               "a report of session 7 was given to session 8");
+    try_alone("goodlock_json", print_findings_by_another_session, "the text of a report is made by its own session",
+              "a report of session 7 was given to session 8");
+    try_alone("goodlock_text", print_settled_findings_by_another_session,
+              "the text of a report is made by its own session", "a report of session 7 was given to session 8");
     try_alone("goodlock_cycles", count_while_it_prints, ALONE,
               "another thread is in goodlock_text with a report of session 7");
     try_alone("goodlock_text", write_beyond_the_buffer, APART, "`buffer` and `needed` overlap");
@@ -952,6 +1004,8 @@ static void refuse_memory(void)
     expect("lane", goodlock_lane_open(&world.session, &lane, &world.at), GOODLOCK_MEMORY);
     is_refused = true;
     expect("report", goodlock_report_so_far(&world.session, 2, 4, 10, &report), GOODLOCK_MEMORY);
+    is_refused = true;
+    expect("findings", goodlock_findings_so_far(&world.session, 2, 4, 10, &report), GOODLOCK_MEMORY);
     check(lane.at == NULL && report.at == NULL, "what was refused was opened");
     expect("lane", goodlock_lane_open(&world.session, &lane, &world.at), GOODLOCK_OK);
     check(world.at == 1, "a lane that was refused was given out");
@@ -1025,18 +1079,15 @@ static void work_after_both(void)
 /* A report with its own names is printed by any session. */
 static void print_by_mention(void)
 {
-    begin();
-    expect("hand in", goodlock_hand_in(&world.session, &world.lane), GOODLOCK_OK);
-    expect("lane", goodlock_lane_open(&world.session, &world.lane, &world.thread), GOODLOCK_OK);
-    expect("close", goodlock_close(&world.lane), GOODLOCK_OK);
-    expect("pull", goodlock_pull(&world.session, 10, &world.pulled), GOODLOCK_OK);
-    expect("hand in", goodlock_hand_in(&world.session, &world.lane), GOODLOCK_OK);
-    expect("settle", goodlock_settle(&world.session, &world.thread), GOODLOCK_OK);
-    goodlock_report_free(&world.report);
+    settle_all();
     expect("report", goodlock_report_by_mention(&world.session, 2, 4, 10, &world.report), GOODLOCK_OK);
     expect("open", goodlock_open(8, 1, 1, &second), GOODLOCK_OK);
     expect("text", goodlock_text(&second, &world.report, world.buffer, 0, &world.needed), GOODLOCK_OK);
     check(world.needed == strlen("cycles: 0\n"), "the report's length");
+    goodlock_report_free(&world.report);
+    expect("findings", goodlock_findings_by_mention(&world.session, 2, 4, 10, &world.report), GOODLOCK_OK);
+    expect("text", goodlock_text(&second, &world.report, world.buffer, 0, &world.needed), GOODLOCK_OK);
+    check(world.needed == strlen("findings: 0\n"), "the length of findings");
     goodlock_session_free(&second);
     end();
 }

@@ -122,6 +122,7 @@ int main()
     with_limits(timed, again, c);
     with_readers(r, w);
     swapped(d, e);
+    check(goodlock::findings_so_far().code == GOODLOCK_OK, "findings so far");
     const goodlock::result result = goodlock::finish();
     check(result.code == GOODLOCK_OK && result.is_settled && result.unrecorded == 0, "the report is settled");
     check(result.text == RIGHT, "another text:\n" + result.text);

@@ -2,7 +2,8 @@
  * written out here as the numbers that the header's text gives them; none of its constants is used for them.
  *
  *     library_header forms      what each short form hands to goodlock_record, and that it answers what that answers
- *     library_header reports    threads recorded by short forms and by numbers: the same answers, texts and JSON
+ *     library_header reports    threads recorded by short forms and by numbers: the same answers, texts and JSON, of
+ *                               cycles and of findings
  *     library_header words      the words for each answer
  *
  * goodlock_record is listened to by the linker's --wrap. What isn't as it has to be is told on standard output; the
@@ -96,6 +97,14 @@ static const char A_CYCLE[] = "cycle 1: 2 edges\n"
                               "  T1 holds c since @3 wants a at @4\n"
                               "cycles: 1\n";
 
+static const char NO_FINDING[] = "findings: 0\n";
+static const char A_FINDING[] = "finding 1: 2 edges\n"
+                                "  T0 holds a since @1 wants c at @2\n"
+                                "    threads: 1, locks: 2\n"
+                                "  T1 holds c since @3 wants a at @4\n"
+                                "    threads: 1, locks: 2\n"
+                                "findings: 1\n";
+
 static const struct scene {
     const char *name;
     const char *text;
@@ -121,18 +130,30 @@ static const struct scene {
 };
 enum { SCENES = sizeof scenes / sizeof *scenes };
 
-/* What a scene came to: the answers of its steps and of the report, and what is written of that. */
-struct outcome {
-    uint32_t steps[STEPS], report;
+/* A report, of cycles or of findings, and what is written of it. */
+struct written {
+    uint32_t code;
     size_t text_size, json_size;
     uint8_t text[BUFFER], json[BUFFER];
 };
 
+/* What a scene came to: the answers of its steps, and the reports. */
+struct outcome {
+    uint32_t steps[STEPS];
+    struct written reports[2];
+};
+
+static bool is_same_report(const struct written *one, const struct written *other)
+{
+    return one->code == other->code && one->text_size == other->text_size &&
+           memcmp(one->text, other->text, one->text_size) == 0 && one->json_size == other->json_size &&
+           memcmp(one->json, other->json, one->json_size) == 0;
+}
+
 static bool is_same(const struct outcome *one, const struct outcome *other)
 {
-    return memcmp(one->steps, other->steps, sizeof one->steps) == 0 && one->report == other->report &&
-           one->text_size == other->text_size && memcmp(one->text, other->text, one->text_size) == 0 &&
-           one->json_size == other->json_size && memcmp(one->json, other->json, one->json_size) == 0;
+    return memcmp(one->steps, other->steps, sizeof one->steps) == 0 &&
+           is_same_report(&one->reports[0], &other->reports[0]) && is_same_report(&one->reports[1], &other->reports[1]);
 }
 
 static void open_scene(goodlock_session *session, goodlock_lane *lanes)
@@ -153,15 +174,15 @@ static void open_scene(goodlock_session *session, goodlock_lane *lanes)
     check(wrong == 0, "a session is opened");
 }
 
-static void make_report(goodlock_session *session, struct outcome *outcome)
+static void make_report(goodlock_session *session, bool is_of_findings, struct written *written)
 {
     goodlock_report report = {NULL};
-    outcome->report = goodlock_report_so_far(session, 2, 4, 1000, &report);
-    if (outcome->report != 0)
+    written->code = (is_of_findings ? goodlock_findings_so_far : goodlock_report_so_far)(session, 2, 4, 1000, &report);
+    if (written->code != 0)
         return;
-    expect("text", goodlock_text(session, &report, outcome->text, BUFFER, &outcome->text_size), 0);
-    expect("JSON", goodlock_json(session, &report, outcome->json, BUFFER, &outcome->json_size), 0);
-    check(outcome->text_size <= BUFFER && outcome->json_size <= BUFFER, "text and JSON fit");
+    expect("text", goodlock_text(session, &report, written->text, BUFFER, &written->text_size), 0);
+    expect("JSON", goodlock_json(session, &report, written->json, BUFFER, &written->json_size), 0);
+    check(written->text_size <= BUFFER && written->json_size <= BUFFER, "text and JSON fit");
     goodlock_report_free(&report);
 }
 
@@ -183,7 +204,8 @@ static void play(const struct scene *scene, bool is_by_forms, uint32_t kind, uin
                                         : goodlock_record(lane, number, step->operand, i, &at);
     }
     expect("pull", goodlock_pull(&session, 1000, &pulled), 0);
-    make_report(&session, outcome);
+    for (int i = 0; i < 2; i++)
+        make_report(&session, i == 1, &outcome->reports[i]);
     for (uint32_t i = 0; i < THREADS; i++)
         goodlock_lane_free(&lanes[i]);
     goodlock_session_free(&session);
@@ -202,6 +224,15 @@ static bool are_told_apart(uint32_t kind, uint32_t other)
     return false;
 }
 
+/* Whether the report has this text, and a JSON. */
+static void check_report(const char *scene, const struct written *report, const char *right)
+{
+    char text[BUFFER + 200];
+    snprintf(text, sizeof text, "%s: another text:\n%.*s", scene, (int)report->text_size, (const char *)report->text);
+    check(report->text_size == strlen(right) && memcmp(report->text, right, report->text_size) == 0, text);
+    check(report->json_size > 0, "the JSON isn't empty");
+}
+
 static void test_reports(void)
 {
     static struct outcome by_numbers, by_forms;
@@ -212,12 +243,8 @@ static void test_reports(void)
         play(scene, true, 0, 0, &by_forms);
         for (uint32_t k = 0; k < scene->count; k++)
             expect(scene->name, by_numbers.steps[k], 0);
-        snprintf(text, sizeof text, "%s: another text:\n%.*s", scene->name, (int)by_numbers.text_size,
-                 (const char *)by_numbers.text);
-        check(by_numbers.text_size == strlen(scene->text) &&
-                  memcmp(by_numbers.text, scene->text, by_numbers.text_size) == 0,
-              text);
-        check(by_numbers.json_size > 0, "the JSON isn't empty");
+        check_report(scene->name, &by_numbers.reports[0], scene->text);
+        check_report(scene->name, &by_numbers.reports[1], scene->text == A_CYCLE ? A_FINDING : NO_FINDING);
         snprintf(text, sizeof text, "%s: by short forms it comes to something else than by numbers", scene->name);
         check(is_same(&by_numbers, &by_forms), text);
     }

@@ -6,9 +6,9 @@
 The headers are compiled alone as C and as C++. The numbers and types of goodlock.h have to be those of crates/gl_c;
 header.c is of its short forms and its words. Each example of library/examples prints its known report. The blocks of
 docs/EMBEDDING.md are compiled and run as they stand there, and its commands are typed, but for what is installed.
-sessions.c records random sessions in running threads; each report's text and JSON has to be what PROGRAM says of the
-trace of what was recorded, byte for byte. Some hundred of them run under AddressSanitizer and ThreadSanitizer, and some
-of each kind under Valgrind.
+sessions.c records random sessions in running threads; the text and JSON of each report, of cycles and of findings, has to be
+what PROGRAM says of the trace of what was recorded, byte for byte. Some hundred of them run under AddressSanitizer and
+ThreadSanitizer, and some of each kind under Valgrind.
 misuse.c uses each call wrongly, refuses memory, forks and leaves in mid-course; partial.c leaves events out, and goes
 on in a second session; order.c tells the same by numbers in two orders, and their reports by mention have to be the
 same; wrapper.cc, forms.cc and busy.cc are of goodlock.hpp, names.c of goodlock_names.h, as C and as C++, by many threads and by all short
@@ -421,23 +421,23 @@ class Tests:
 
     def compared(self, line, folder):
         """What is wrong with the report that a line of the driver tells; nothing where all is well."""
-        name, *numbers = line.split()
-        mode, length, most, code, cycles, more = map(int, numbers)
-        path = folder / f"{name}.std"
-        trace = path.read_bytes()
-        text, errors, status = self.predicted(trace, mode, length, most)
+        name, of, listed, *numbers = line.split()
+        mode, length, most, code, count, more = map(int, numbers)
+        path = folder / f"{of}.std"
+        asked = (path.read_bytes(), mode, length, most, *(["--findings"] if listed == "findings" else []))
+        text, errors, status = self.predicted(*asked)
         if code == INCONSISTENT or status > 1:
             is_so = code == INCONSISTENT and status == 2 and errors.startswith(b"goodlock: inconsistent: ")
             return None if is_so else f"{name}: code {code}, and {errors!r} of the program"
         if code != 0:
             return f"{name}: code {code}"
         if text != (folder / f"{name}.text").read_bytes():
-            return f"{name}: another text than that of `predict` on {path}"
-        if text.splitlines()[-1] != f"cycles: {cycles}{' (more)' * more}".encode():
-            return f"{name}: {cycles} cycles are told, more: {more}, and the text ends with {text.splitlines()[-1]!r}"
-        json = self.predicted(trace, mode, length, most, "--json")[0]
+            return f"{name}: another text of {listed} than that of `predict` on {path}"
+        if text.splitlines()[-1] != f"{listed}: {count}{' (more)' * more}".encode():
+            return f"{name}: {count} {listed} are told, more: {more}, and the text ends with {text.splitlines()[-1]!r}"
+        json = self.predicted(*asked, "--json")[0]
         if json != (folder / f"{name}.json").read_bytes():
-            return f"{name}: another JSON than that of `predict --json` on {path}"
+            return f"{name}: another JSON of {listed} than that of `predict --json` on {path}"
         return None
 
     def compared_all(self, lines, folder):
@@ -460,8 +460,8 @@ class Tests:
         return (
             faults,
             len(lines),
-            sum(line.split()[4] == str(INCONSISTENT) for line in lines),
-            sum(line.split()[5] != "0" for line in lines),
+            sum(line.split()[6] == str(INCONSISTENT) for line in lines),
+            sum(line.split()[7] != "0" for line in lines),
         )
 
     def sessions_by(self, name, driver, numbers, prefix=()):
@@ -474,7 +474,7 @@ class Tests:
             self.passed += max(0, last - first - len(faults))
             for fault in faults:
                 self.check(f"{name}", False, fault)
-        print(f"{name}: {len(numbers)} sessions, {reports} reports, {cyclic} with cycles, {inconsistent} inconsistent")
+        print(f"{name}: {len(numbers)} sessions, {reports} reports, {cyclic} that list some, {inconsistent} inconsistent")
 
     def driver(self, output, *words):
         source = HERE / "sessions.c"
@@ -513,7 +513,7 @@ class Tests:
         for name, words in BUILDS.items():
             c = ["g++", "-std=c++17", *STRICT, f"-I{HEADERS}", *words, source, ARCHIVE, *WRAPS]
             if self.build(f"wrapper_{name}", *c, "-lpthread"):
-                for word in ("locks", "names", "memory", "threads", "leave"):
+                for word in ("locks", "names", "findings", "memory", "threads", "leave"):
                     self.counted(f"wrapper, {word}, {name}", f"wrapper_{name}", word, env=environment)
             self.busy(name, "g++", "c++11", *words)
         # Not by thread: gcc's doesn't know pthread_mutex_clocklock, by which std's limits of time go.
@@ -668,7 +668,7 @@ class Tests:
                     self.counted(f"debug, names, {word}, {name}", f"debug_names_{name}", word)
             rest = [*c, *(AS_WRITTEN if name == "plain" else more), ARCHIVE, "-lpthread"]
             if self.build(f"debug_wrapper_{name}", "g++", "-std=c++17", HERE / "wrapper.cc", *rest, *WRAPS):
-                for word in ("locks", "names", "memory", "threads"):
+                for word in ("locks", "names", "findings", "memory", "threads"):
                     self.counted(f"debug, wrapper, {word}, {name}", f"debug_wrapper_{name}", word, env=environment)
                 self.left(f"debug, wrapper, leave, {name}", 1, f"debug_wrapper_{name}", "leave")
             self.busy(f"debug {name}", "g++", "c++17", DEBUG, *(AS_WRITTEN if name == "plain" else more))

@@ -1,9 +1,11 @@
 /* Uses goodlock.h wrongly, leaves its sessions in mid-course, and refuses it memory.
  *
  *     library_misuse misuse     each call on handles and numbers that it doesn't take
- *     library_misuse limits     64 locks, 1,000,000 acquires, 1,024 threads, names, a pull of more than a ring holds
+ *     library_misuse limits     64 locks, 1,000,000 acquires, 1,024 threads, names, a pull of more than a ring holds, a
+ *                               thousand cycles that are one finding
  *     library_misuse memory     one session, in which the first request for memory is refused, then the second ..; it
- *                               pulls off all lanes, and again off one lane after the other
+ *                               pulls off all lanes, and again off one lane after the other. The same of each call that
+ *                               makes findings, with what prints them
  *     library_misuse fork       children that are forked while another thread records, and leave by _exit
  *     library_misuse exit       main returns while a thread records
  *
@@ -48,6 +50,26 @@ static const char EXPECTED[] = "cycle 1: 2 edges\n"
                                "cycles: 1\n";
 
 static const char *const NO_CYCLE = "cycles: 0\n";
+
+/* Both threads hold a lock since `here` and want one at `there`. */
+static const char FINDING[] = "finding 1: 2 edges\n"
+                              "  T0 holds a since here wants b at there\n"
+                              "    threads: 2, locks: 2\n"
+                              "  T1 holds b since here wants a at there\n"
+                              "    threads: 2, locks: 2\n"
+                              "findings: 1\n";
+static const char FINDING_JSON_END[] =
+    "\"findings\":[[0,1]],\"format\":3,\"len\":4,\"max\":1000,\"mode\":\"full\",\"more\":false}\n";
+
+/* The calls that make findings. */
+static const struct maker {
+    const char *name;
+    uint32_t (*make)(goodlock_session *, uint32_t, uint32_t, uint32_t, goodlock_report *);
+    bool is_of_settled;
+} MAKERS[] = {{"findings so far", goodlock_findings_so_far, false},
+              {"settled findings", goodlock_settled_findings, true},
+              {"findings by mention", goodlock_findings_by_mention, true}};
+enum { COUNT_OF_MAKERS = sizeof MAKERS / sizeof *MAKERS };
 
 static uint32_t number(uint32_t (*call)(goodlock_session *, const uint8_t *, size_t, uint32_t *),
                        goodlock_session *session, const char *name, uint32_t *number)
@@ -117,6 +139,23 @@ static void end_lane(goodlock_session *session, goodlock_lane *lane)
     pull_all(session);
     expect("hand_in", goodlock_hand_in(session, lane), GOODLOCK_OK);
     check(lane->at == NULL, "a lane that was handed in is all zero");
+}
+
+/* A session whose threads took two locks in opposite orders. */
+static void record_opposite(goodlock_session *session, goodlock_lane *lanes)
+{
+    open_two(session, lanes, 8);
+    acquire_two(&lanes[0], 0, 1);
+    acquire_two(&lanes[1], 1, 0);
+    pull_all(session);
+}
+
+static void settle_two(goodlock_session *session, goodlock_lane *lanes)
+{
+    uint32_t thread;
+    for (int i = 0; i < 2; i++)
+        end_lane(session, &lanes[i]);
+    expect("settle", goodlock_settle(session, &thread), GOODLOCK_OK);
 }
 
 /* How often a pull was refused memory. */
@@ -240,10 +279,66 @@ static void refuse_each(bool onwards, bool by_lane)
     check(pulls > 1, "pulls asked for memory that was refused");
 }
 
+/* Findings of a session that stands, printed in both ways; how often a call told that memory was refused. */
+static unsigned whole_findings(goodlock_session *session, const struct maker *maker)
+{
+    const size_t end = strlen(FINDING_JSON_END);
+    goodlock_report report = {NULL};
+    uint8_t buffer[2000];
+    size_t size = 0, count = 0;
+    bool more = true;
+    unsigned told = 0;
+    long before;
+    TRY(maker->make(session, GOODLOCK_FULL_MODE, 4, 1000, &report));
+    TRY(goodlock_text(session, &report, buffer, sizeof buffer, &size));
+    check(size == strlen(FINDING) && memcmp(buffer, FINDING, size) == 0, "the text of findings");
+    TRY(goodlock_json(session, &report, buffer, sizeof buffer, &size));
+    check(size < sizeof buffer && size > end && memcmp(buffer + size - end, FINDING_JSON_END, end) == 0,
+          "the JSON of findings");
+    before = requests;
+    TRY(goodlock_cycles(&report, &count, &more));
+    check(count == 1 && !more, "there is one finding");
+    is_counted = true;
+    goodlock_report_free(&report);
+    is_counted = false;
+    check(requests == before && report.at == NULL, "to count findings takes no memory, nor does what frees them");
+    return told;
+}
+
+/* Refuses the first request of these calls, then the second .., alone or with all that follow in the call. */
+static void refuse_each_of_findings(goodlock_session *session, const struct maker *maker, bool onwards)
+{
+    unsigned told = 0;
+    long calls = 0;
+    for (long at = 1;; at++) {
+        is_onwards = onwards;
+        requests = 0;
+        was_refused = false;
+        refuse_at = at;
+        told += whole_findings(session, maker);
+        if (!was_refused)
+            break;
+        calls++;
+    }
+    refuse_at = 0;
+    printf("memory %s, %s: %ld requests refused, %u told\n", onwards ? "onwards" : "once", maker->name, calls, told);
+    check(calls > 5 && told > 5, "findings asked for memory, which was refused");
+}
+
 static void refuse_memory(void)
 {
+    goodlock_session session;
+    goodlock_lane lanes[2];
     for (int way = 0; way < 4; way++)
         refuse_each(way % 2 == 1, way / 2 == 1);
+    record_opposite(&session, lanes);
+    refuse_each_of_findings(&session, &MAKERS[0], false);
+    refuse_each_of_findings(&session, &MAKERS[0], true);
+    settle_two(&session, lanes);
+    for (unsigned i = 1; i < COUNT_OF_MAKERS; i++)
+        for (int way = 0; way < 2; way++)
+            refuse_each_of_findings(&session, &MAKERS[i], way == 1);
+    goodlock_session_free(&session);
 }
 
 /* ---- Misuse */
@@ -266,6 +361,8 @@ static void on_nothing(void)
     expect("report of no session", goodlock_report_so_far(&session, 2, 4, 10, &report), GOODLOCK_MISUSE);
     expect("settled report of no session", goodlock_settled_report(&session, 2, 4, 10, &report), GOODLOCK_MISUSE);
     expect("report by mention of no session", goodlock_report_by_mention(&session, 2, 4, 10, &report), GOODLOCK_MISUSE);
+    for (unsigned i = 0; i < COUNT_OF_MAKERS; i++)
+        expect(MAKERS[i].name, MAKERS[i].make(&session, 2, 4, 10, &report), GOODLOCK_MISUSE);
     expect("hand_in to no session", goodlock_hand_in(&session, &lane), GOODLOCK_MISUSE);
     expect("settle of no session", goodlock_settle(&session, &at), GOODLOCK_MISUSE);
     expect("text of no session", goodlock_text(&session, &report, buffer, 10, &size), GOODLOCK_MISUSE);
@@ -372,6 +469,49 @@ static void settling(void)
     for (int i = 0; i < 2; i++)
         goodlock_lane_free(&others[i]);
     goodlock_session_free(&other);
+}
+
+/* Findings of a session, each call with numbers out of their range, over a report, and at a stage that isn't its own.
+ */
+static void findings_at(goodlock_session *session, bool is_settled)
+{
+    static const uint32_t asked[][3] = {{3, 4, 10}, {2, 1, 10},     {2, 17, 10},
+                                        {2, 4, 0},  {2, 4, 100001}, {UINT32_MAX, 2, 1}};
+    for (unsigned i = 0; i < COUNT_OF_MAKERS; i++) {
+        const struct maker *maker = &MAKERS[i];
+        const bool is_right = maker->is_of_settled == is_settled;
+        goodlock_report report = {NULL};
+        for (unsigned k = 0; k < sizeof asked / sizeof *asked; k++) {
+            expect(maker->name, maker->make(session, asked[k][0], asked[k][1], asked[k][2], &report), GOODLOCK_RANGE);
+            check(report.at == NULL, "findings that aren't made are all zero");
+        }
+        expect(maker->name, maker->make(session, 2, 4, 10, &report), is_right ? GOODLOCK_OK : GOODLOCK_MISUSE);
+        check((report.at != NULL) == is_right, "findings are made where they are asked for at their stage");
+        if (!is_right)
+            continue;
+        check(is_text(session, &report, FINDING), "the text of findings");
+        for (unsigned k = 0; k < COUNT_OF_MAKERS; k++)
+            expect("findings over findings", MAKERS[k].make(session, 2, 4, 10, &report), GOODLOCK_MISUSE);
+        check(is_text(session, &report, FINDING), "findings stay as they were");
+        goodlock_report_free(&report);
+        check(report.at == NULL, "findings that were freed are all zero");
+    }
+}
+
+static void findings(void)
+{
+    goodlock_session session;
+    goodlock_lane lanes[2];
+    record_opposite(&session, lanes);
+    findings_at(&session, false);
+    settle_two(&session, lanes);
+    findings_at(&session, true);
+    goodlock_session_free(&session);
+    for (unsigned i = 0; i < COUNT_OF_MAKERS; i++) {
+        goodlock_report report = {NULL};
+        expect("findings of a freed session", MAKERS[i].make(&session, 2, 4, 10, &report), GOODLOCK_MISUSE);
+        check(report.at == NULL, "findings of a freed session are all zero");
+    }
 }
 
 /* The place that is told: what an event that isn't recorded would have had, and none where there is no such event. */
@@ -501,8 +641,10 @@ static void inconsistent(void)
     expect("join", goodlock_join(&lanes[0], 1, 0), GOODLOCK_OK);
     expect("fork", goodlock_fork(&lanes[0], 1, 0), GOODLOCK_OK);
     pull_all(&session);
-    for (uint32_t mode = 0; mode < 3; mode++)
+    for (uint32_t mode = 0; mode < 3; mode++) {
         expect("so far", goodlock_report_so_far(&session, mode, 4, 10, &report), GOODLOCK_INCONSISTENT);
+        expect("findings so far", goodlock_findings_so_far(&session, mode, 4, 10, &report), GOODLOCK_INCONSISTENT);
+    }
     acquire_two(&lanes[1], 0, 1);
     for (int i = 0; i < 2; i++)
         end_lane(&session, &lanes[i]);
@@ -511,6 +653,8 @@ static void inconsistent(void)
     for (uint32_t mode = 0; mode < 3; mode++) {
         expect("settled", goodlock_settled_report(&session, mode, 4, 10, &report), GOODLOCK_INCONSISTENT);
         expect("by mention", goodlock_report_by_mention(&session, mode, 4, 10, &report), GOODLOCK_INCONSISTENT);
+        for (unsigned i = 1; i < COUNT_OF_MAKERS; i++)
+            expect(MAKERS[i].name, MAKERS[i].make(&session, mode, 4, 10, &report), GOODLOCK_INCONSISTENT);
     }
     check(report.at == NULL, "there is no report");
     goodlock_session_free(&session);
@@ -536,26 +680,23 @@ static void reports_alone(void)
 {
     goodlock_session session;
     goodlock_lane lanes[2];
-    struct counted reports[2] = {{{NULL}, 0, 99}, {{NULL}, 0, 99}};
+    struct counted reports[4] = {{{NULL}, 0, 99}, {{NULL}, 0, 99}, {{NULL}, 0, 99}, {{NULL}, 0, 99}};
     uint8_t buffer[1000];
     size_t size;
-    uint32_t at;
-    open_two(&session, lanes, 8);
-    acquire_two(&lanes[0], 0, 1);
-    acquire_two(&lanes[1], 1, 0);
-    for (int i = 0; i < 2; i++)
-        end_lane(&session, &lanes[i]);
-    expect("settle", goodlock_settle(&session, &at), GOODLOCK_OK);
+    record_opposite(&session, lanes);
+    settle_two(&session, lanes);
     expect("settled", goodlock_settled_report(&session, 2, 4, 10, &reports[0].report), GOODLOCK_OK);
     expect("by mention", goodlock_report_by_mention(&session, 2, 4, 10, &reports[1].report), GOODLOCK_OK);
+    expect("findings", goodlock_settled_findings(&session, 2, 4, 10, &reports[2].report), GOODLOCK_OK);
+    expect("findings by mention", goodlock_findings_by_mention(&session, 2, 4, 10, &reports[3].report), GOODLOCK_OK);
     goodlock_session_free(&session);
-    for (int i = 0; i < 2; i++) {
+    for (int i = 0; i < 4; i++) {
         pthread_t thread;
         expect("text", goodlock_text(&session, &reports[i].report, buffer, sizeof buffer, &size), GOODLOCK_MISUSE);
         check(pthread_create(&thread, NULL, count_and_free, &reports[i]) == 0, "a thread is started");
         pthread_join(thread, NULL);
         expect("cycles on another thread", reports[i].code, GOODLOCK_OK);
-        check(reports[i].cycles == 1 && reports[i].report.at == NULL, "it has one cycle, and is freed");
+        check(reports[i].cycles == 1 && reports[i].report.at == NULL, "it has one cycle or finding, and is freed");
     }
 }
 
@@ -693,6 +834,109 @@ static void names(void)
     check(is_text(&session, &report, right), "what has no name is shown by an empty one");
     goodlock_report_free(&report);
     for (int i = 0; i < 2; i++)
+        goodlock_lane_free(&lanes[i]);
+    goodlock_session_free(&session);
+}
+
+/* Places that were given no name are told apart by their numbers: two findings, of which nothing is shown but what is
+ * counted. */
+static void places_without_names(void)
+{
+    static const char *const right = "finding 1: 2 edges\n"
+                                     "  T0 holds a since  wants b at \n"
+                                     "    threads: 2, locks: 2\n"
+                                     "  T1 holds b since  wants a at \n"
+                                     "    threads: 2, locks: 2\n"
+                                     "finding 2: 2 edges\n"
+                                     "  T0 holds  since  wants  at \n"
+                                     "    threads: 2, locks: 2\n"
+                                     "  T1 holds  since  wants  at \n"
+                                     "    threads: 2, locks: 2\n"
+                                     "findings: 2\n";
+    goodlock_session session;
+    goodlock_lane lanes[2];
+    goodlock_report report = {NULL};
+    open_two(&session, lanes, 16);
+    for (uint32_t i = 0; i < 2; i++)
+        for (uint32_t k = 0; k < 2; k++) {
+            expect("acquire", goodlock_acquire(&lanes[i], 2 * k + i, 100 + k), GOODLOCK_OK);
+            expect("acquire", goodlock_acquire(&lanes[i], 2 * k + 1 - i, 200), GOODLOCK_OK);
+            expect("release", goodlock_release(&lanes[i], 2 * k + 1 - i, 0), GOODLOCK_OK);
+            expect("release", goodlock_release(&lanes[i], 2 * k + i, 0), GOODLOCK_OK);
+        }
+    pull_all(&session);
+    expect("findings", goodlock_findings_so_far(&session, 2, 4, 10, &report), GOODLOCK_OK);
+    check(is_text(&session, &report, right), "places are told apart by their numbers");
+    goodlock_report_free(&report);
+    for (int i = 0; i < 2; i++)
+        goodlock_lane_free(&lanes[i]);
+    goodlock_session_free(&session);
+}
+
+/* One fault in threads that run the same code: half of them take two locks of each pair in one order, the others in the
+ * other one. */
+enum { SIDES = 2, CLERKS = 12, LEDGERS = 7 };
+
+static void record_ledgers(goodlock_lane *lane, uint32_t side)
+{
+    uint32_t wrong = 0;
+    for (uint32_t pair = 0; pair < LEDGERS; pair++) {
+        const uint32_t first = 2 * pair + side, second = 2 * pair + 1 - side, at = 2 * side;
+        wrong += goodlock_acquire(lane, first, at) != GOODLOCK_OK;
+        wrong += goodlock_acquire(lane, second, at + 1) != GOODLOCK_OK;
+        wrong += goodlock_release(lane, second, at + 1) != GOODLOCK_OK;
+        wrong += goodlock_release(lane, first, at) != GOODLOCK_OK;
+    }
+    check(wrong == 0, "a thread's events are recorded");
+}
+
+/* A session in which they did so, with names told. */
+static void open_ledgers(goodlock_session *session, goodlock_lane *lanes)
+{
+    static const char *const places[] = {"first:1", "first:2", "other:1", "other:2"};
+    char name[20];
+    uint32_t at;
+    session->at = NULL;
+    expect("open", goodlock_open(next_session(), SIDES * CLERKS, 64, session), GOODLOCK_OK);
+    for (uint32_t i = 0; i < 2 * LEDGERS; i++) {
+        snprintf(name, sizeof name, "%s-%u", i % 2 == 0 ? "book" : "page", i / 2);
+        expect("lock", number(goodlock_lock, session, name, &at), GOODLOCK_OK);
+    }
+    for (uint32_t i = 0; i < 4; i++)
+        expect("place", number(goodlock_place, session, places[i], &at), GOODLOCK_OK);
+    for (uint32_t i = 0; i < SIDES * CLERKS; i++) {
+        lanes[i].at = NULL;
+        expect("lane", goodlock_lane_open(session, &lanes[i], &at), GOODLOCK_OK);
+        record_ledgers(&lanes[i], i / CLERKS);
+    }
+    pull_all(session);
+}
+
+/* 12 threads against 12 in each of 7 pairs have 1,008 cycles, and are one finding. */
+static void one_fault(void)
+{
+    static const char *const right = "finding 1: 2 edges\n"
+                                     "  T0 holds book-0 since first:1 wants page-0 at first:2\n"
+                                     "    threads: 12, locks: 14\n"
+                                     "  T12 holds page-0 since other:1 wants book-0 at other:2\n"
+                                     "    threads: 12, locks: 14\n"
+                                     "findings: 1\n";
+    goodlock_session session;
+    goodlock_lane lanes[SIDES * CLERKS];
+    goodlock_report report = {NULL};
+    size_t count = 0;
+    bool more = true;
+    open_ledgers(&session, lanes);
+    expect("cycles", goodlock_report_so_far(&session, 2, 4, 2000, &report), GOODLOCK_OK);
+    expect("cycles", goodlock_cycles(&report, &count, &more), GOODLOCK_OK);
+    check(count == CLERKS * CLERKS * LEDGERS && !more, "there are 1,008 cycles");
+    goodlock_report_free(&report);
+    expect("findings", goodlock_findings_so_far(&session, 2, 4, 1, &report), GOODLOCK_OK);
+    expect("cycles", goodlock_cycles(&report, &count, &more), GOODLOCK_OK);
+    check(count == 1 && !more, "there is one finding");
+    check(is_text(&session, &report, right), "the finding");
+    goodlock_report_free(&report);
+    for (int i = 0; i < SIDES * CLERKS; i++)
         goodlock_lane_free(&lanes[i]);
     goodlock_session_free(&session);
 }
@@ -888,6 +1132,7 @@ int main(int count, char **words)
         on_nothing();
         out_of_range();
         settling();
+        findings();
         places();
         orphans();
         unused_lanes();
@@ -900,6 +1145,8 @@ int main(int count, char **words)
         many_notes();
         many_threads();
         names();
+        places_without_names();
+        one_fault();
         beyond_a_ring();
     } else if (strcmp(word, "memory") == 0) {
         refuse_memory();

@@ -1,5 +1,5 @@
 /* Tells the same of two threads to goodlock.h with locks and places numbered in opposite orders: reports by mention are
- * alike, byte for byte.
+ * alike, byte for byte, of cycles and of findings.
  *
  *     library_order same       texts and JSON of both orders, against each other and against a text by hand
  *     library_order refused    what stands against such a report: no session, not settled, a number, no name
@@ -41,6 +41,31 @@ static const char BELL_FIRST[] = "cycle 1: 2 edges\n"
                                  "  T0 holds door since hall:1 wants key at hall:2\n"
                                  "  T1 holds key since yard:3 wants door at yard:4\n"
                                  "cycles: 2\n";
+
+/* Findings, in the same orders: each has two places of its own for either thread. */
+static const char FINDINGS_BY_MENTION[] = "finding 1: 2 edges\n"
+                                          "  T0 holds door since hall:1 wants key at hall:2\n"
+                                          "    threads: 1, locks: 2\n"
+                                          "  T1 holds key since yard:3 wants door at yard:4\n"
+                                          "    threads: 1, locks: 2\n"
+                                          "finding 2: 2 edges\n"
+                                          "  T0 holds lamp since hall:3 wants bell at hall:4\n"
+                                          "    threads: 1, locks: 2\n"
+                                          "  T1 holds bell since yard:1 wants lamp at yard:2\n"
+                                          "    threads: 1, locks: 2\n"
+                                          "findings: 2\n";
+
+static const char FINDINGS_BELL_FIRST[] = "finding 1: 2 edges\n"
+                                          "  T0 holds lamp since hall:3 wants bell at hall:4\n"
+                                          "    threads: 1, locks: 2\n"
+                                          "  T1 holds bell since yard:1 wants lamp at yard:2\n"
+                                          "    threads: 1, locks: 2\n"
+                                          "finding 2: 2 edges\n"
+                                          "  T0 holds door since hall:1 wants key at hall:2\n"
+                                          "    threads: 1, locks: 2\n"
+                                          "  T1 holds key since yard:3 wants door at yard:4\n"
+                                          "    threads: 1, locks: 2\n"
+                                          "findings: 2\n";
 
 /* ---- A session */
 
@@ -116,34 +141,43 @@ static bool is_text(told *all, goodlock_report *report, const char *right)
 
 enum { BUFFER = 8000 };
 
+typedef uint32_t reporting(goodlock_session *, uint32_t, uint32_t, uint32_t, goodlock_report *);
+
+/* What is listed, cycles or findings: the calls, and the texts by mention and by numbers that were told backwards. */
+static const struct listing {
+    reporting *by_mention, *settled;
+    const char *text, *text_backwards;
+} listings[] = {{goodlock_report_by_mention, goodlock_settled_report, BY_MENTION, BELL_FIRST},
+                {goodlock_findings_by_mention, goodlock_settled_findings, FINDINGS_BY_MENTION, FINDINGS_BELL_FIRST}};
+
 /* One session's report by mention; its JSON, and how long that is. */
-static size_t make(bool is_backwards, uint8_t *json)
+static size_t make(const struct listing *listing, bool is_backwards, uint8_t *json)
 {
+    const char *const own_text = is_backwards ? listing->text_backwards : listing->text;
     told all;
     goodlock_report report = {NULL}, own = {NULL};
-    size_t size = 0, cycles = 0;
+    size_t size = 0, count = 0;
     uint32_t late;
     bool more = true;
     open_told(&all, is_backwards);
     record_pairs(&all);
     settle(&all);
-    expect("by mention", goodlock_report_by_mention(&all.session, GOODLOCK_FULL_MODE, 4, 1000, &report), GOODLOCK_OK);
-    check(is_text(&all, &report, BY_MENTION), "the text by mention");
-    expect("cycles", goodlock_cycles(&report, &cycles, &more), GOODLOCK_OK);
-    check(cycles == 2 && !more, "there are two cycles");
+    expect("by mention", listing->by_mention(&all.session, GOODLOCK_FULL_MODE, 4, 1000, &report), GOODLOCK_OK);
+    check(is_text(&all, &report, listing->text), "the text by mention");
+    expect("cycles", goodlock_cycles(&report, &count, &more), GOODLOCK_OK);
+    check(count == 2 && !more, "there are two");
     expect("JSON", goodlock_json(&all.session, &report, json, BUFFER, &size), GOODLOCK_OK);
     check(size <= BUFFER, "the JSON fits");
-    expect("settled", goodlock_settled_report(&all.session, GOODLOCK_FULL_MODE, 4, 1000, &own), GOODLOCK_OK);
-    check(is_text(&all, &own, is_backwards ? BELL_FIRST : BY_MENTION), "the text by the session's numbers");
+    expect("settled", listing->settled(&all.session, GOODLOCK_FULL_MODE, 4, 1000, &own), GOODLOCK_OK);
+    check(is_text(&all, &own, own_text), "the text by the session's numbers");
     tell(&all, goodlock_lock, "late", &late);
-    check(is_text(&all, &report, BY_MENTION), "the text by mention, once more names were told");
-    check(is_text(&all, &own, is_backwards ? BELL_FIRST : BY_MENTION), "the other text, once more names were told");
+    check(is_text(&all, &report, listing->text), "the text by mention, once more names were told");
+    check(is_text(&all, &own, own_text), "the other text, once more names were told");
     goodlock_report_free(&report);
     goodlock_report_free(&own);
-    expect("one cycle at most", goodlock_report_by_mention(&all.session, GOODLOCK_FULL_MODE, 4, 1, &report),
-           GOODLOCK_OK);
-    expect("cycles", goodlock_cycles(&report, &cycles, &more), GOODLOCK_OK);
-    check(cycles == 1 && more, "one cycle is listed, and there are more");
+    expect("one at most", listing->by_mention(&all.session, GOODLOCK_FULL_MODE, 4, 1, &report), GOODLOCK_OK);
+    expect("cycles", goodlock_cycles(&report, &count, &more), GOODLOCK_OK);
+    check(count == 1 && more, "one is listed, and there are more");
     goodlock_report_free(&report);
     goodlock_session_free(&all.session);
     return size;
@@ -152,9 +186,12 @@ static size_t make(bool is_backwards, uint8_t *json)
 static void same(void)
 {
     static uint8_t forwards[BUFFER], backwards[BUFFER];
-    const size_t size = make(false, forwards);
-    const size_t other = make(true, backwards);
-    check(size == other && size > 0 && memcmp(forwards, backwards, size) == 0, "the JSON is the same, byte for byte");
+    for (int i = 0; i < 2; i++) {
+        const size_t size = make(&listings[i], false, forwards);
+        const size_t other = make(&listings[i], true, backwards);
+        check(size == other && size > 0 && memcmp(forwards, backwards, size) == 0,
+              "the JSON is the same, byte for byte");
+    }
 }
 
 /* ---- What stands against it */
@@ -162,8 +199,10 @@ static void same(void)
 static void refuse(told *all, const char *what, uint32_t mode, uint32_t length, uint32_t most, uint32_t right)
 {
     goodlock_report report = {NULL};
-    expect(what, goodlock_report_by_mention(&all->session, mode, length, most, &report), right);
-    check(report.at == NULL, "a report that isn't made is all zero");
+    for (int i = 0; i < 2; i++) {
+        expect(what, listings[i].by_mention(&all->session, mode, length, most, &report), right);
+        check(report.at == NULL, "a report that isn't made is all zero");
+    }
 }
 
 /* A session in which thread 0 mentions this lock at this place. */
@@ -176,9 +215,11 @@ static void unnamed(const char *what, uint32_t lock, uint32_t place)
     expect("acquire", goodlock_acquire(&all.lanes[0], lock, place), GOODLOCK_OK);
     settle(&all);
     refuse(&all, what, GOODLOCK_FULL_MODE, 4, 1000, GOODLOCK_UNNAMED);
-    expect("settled", goodlock_settled_report(&all.session, GOODLOCK_FULL_MODE, 4, 1000, &report), GOODLOCK_OK);
-    check(is_text(&all, &report, BY_MENTION), "the settled report wants no names");
-    goodlock_report_free(&report);
+    for (int i = 0; i < 2; i++) {
+        expect("settled", listings[i].settled(&all.session, GOODLOCK_FULL_MODE, 4, 1000, &report), GOODLOCK_OK);
+        check(is_text(&all, &report, listings[i].text), "the settled report wants no names");
+        goodlock_report_free(&report);
+    }
     goodlock_session_free(&all.session);
 }
 

@@ -4,15 +4,15 @@
  *
  * Sessions FIRST to LAST - 1 of the seed. What each thread does is planned before: events of which a model in this file
  * says whether they may come next, or else by which code they are refused. The threads record all of it, into rings
- * that are often full, while the main thread pulls. Each report goes to FOLDER as three files: NAME.std, the lists that
- * were pulled by then as a trace; NAME.text and NAME.json, what the library says. A line on standard output has the
- * name, the mode, the length, the number, the code, how many cycles are listed and whether there are more. What isn't
- * as it has to be is told on standard error; the status is 1 then. A session that takes more than a minute ends the
- * program by a signal.
+ * that are often full, while the main thread pulls. What was pulled goes to FOLDER as a trace, NAME.std, and each
+ * report of it as two files, NAME.text and NAME.json, what the library says. For a report a line on standard output has
+ * its name, the trace's, `cycles` or `findings`, the mode, the length, the number, the code, how many are listed and
+ * whether there are more. What isn't as it has to be is told on standard error; the status is 1 then. A session that
+ * takes more than a minute ends the program by a signal.
  *
  * Reports list edges by the numbers of threads and locks, and a trace numbers both by first mention. So each trace
  * begins with a thread N that takes and releases each lock alone and forks each thread, in the order of their numbers:
- * it has no edge, and orders nothing among the others.
+ * it has no edge, and orders nothing among the others. In the trace of a report by mention it forks the threads alone.
  *
  * In some sessions threads hold as many locks as they may. Each acquire that may wait makes an edge for each of
  * them then, and each of these names all of them: a few of these sessions have such reports, of megabytes; in the
@@ -68,7 +68,8 @@ struct session {
     goodlock_session handle;
     goodlock_lane lanes[MAX_THREADS];
     uint32_t pulled[MAX_THREADS]; /* where it is known */
-    unsigned reports;
+    unsigned files;               /* traces and reports that have a name */
+    size_t longest;               /* how long the longest text is so far */
 };
 
 static _Atomic unsigned faults;
@@ -285,9 +286,9 @@ static void write_event(FILE *file, const struct session *session, uint32_t thre
     fputc('\n', file);
 }
 
-static void write_trace(FILE *file, const struct session *session)
+static void write_trace(FILE *file, const struct session *session, bool is_by_mention)
 {
-    for (uint32_t i = 0; i < session->locks; i++)
+    for (uint32_t i = 0; i < session->locks && !is_by_mention; i++)
         for (int k = 0; k < 2; k++) {
             fputs(k == 0 ? "N|acq(" : "N|rel(", file);
             write_name(file, &session->lock_names[i]);
@@ -305,6 +306,17 @@ static void write_trace(FILE *file, const struct session *session)
     }
 }
 
+struct file_name {
+    char text[64];
+};
+
+static struct file_name next_name(struct session *session)
+{
+    struct file_name name;
+    snprintf(name.text, sizeof name.text, "%llu-%u", (unsigned long long)session->number, session->files++);
+    return name;
+}
+
 static FILE *created(const struct session *session, const char *name, const char *ending)
 {
     char path[4096];
@@ -318,6 +330,16 @@ static FILE *created(const struct session *session, const char *name, const char
     return file;
 }
 
+/* Writes what was pulled by now as a trace; its name. */
+static struct file_name save_trace(struct session *session, bool is_by_mention)
+{
+    const struct file_name name = next_name(session);
+    FILE *file = created(session, name.text, "std");
+    write_trace(file, session, is_by_mention);
+    fclose(file);
+    return name;
+}
+
 /* ---- Reports */
 
 typedef uint32_t reporting(goodlock_session *, uint32_t, uint32_t, uint32_t, goodlock_report *);
@@ -327,6 +349,8 @@ struct written {
     uint8_t *bytes;
     size_t size;
 };
+
+typedef struct written printing(struct session *, writing *, goodlock_report *);
 
 /* The text of a report, in a buffer that is a little too short first, and stays as it was. */
 static struct written text_of(struct session *session, writing *write, goodlock_report *report)
@@ -350,6 +374,19 @@ static struct written text_of(struct session *session, writing *write, goodlock_
     return text;
 }
 
+/* The same in a buffer that is mostly long enough, as it is for the session's longest text: else it is made twice. */
+static struct written text_at_once(struct session *session, writing *write, goodlock_report *report)
+{
+    const size_t room = session->longest + 1000;
+    struct written text = {malloc(room), 0};
+    expect(session, "a text", write(&session->handle, report, text.bytes, room, &text.size), GOODLOCK_OK);
+    if (text.size > room) {
+        free(text.bytes);
+        text = text_of(session, write, report);
+    }
+    return text;
+}
+
 static void save(const struct session *session, const char *name, const char *ending, struct written text)
 {
     FILE *file = created(session, name, ending);
@@ -357,23 +394,24 @@ static void save(const struct session *session, const char *name, const char *en
     fclose(file);
 }
 
-/* Makes a report, and writes it and its trace; the text, for comparison. */
-static struct written make_report(struct session *session, reporting *make)
+/* Makes a report of what this trace has, and writes it; the text, for comparison. */
+static struct written make_report(struct session *session, const struct file_name *trace, const char *listed,
+                                  reporting *make)
 {
     goodlock_report report = {NULL};
     struct written text = {NULL, 0}, json;
-    char name[64];
-    size_t cycles = 0;
+    const struct file_name name = next_name(session);
+    printing *const print = make == goodlock_report_so_far ? text_of : text_at_once;
+    size_t count = 0;
     bool more = false;
-    FILE *trace;
     const uint32_t code = make(&session->handle, session->mode, session->length, session->most, &report);
-    snprintf(name, sizeof name, "%llu-%u", (unsigned long long)session->number, session->reports++);
     if (code == GOODLOCK_OK) {
-        text = text_of(session, goodlock_text, &report);
-        json = text_of(session, goodlock_json, &report);
-        expect(session, "cycles", goodlock_cycles(&report, &cycles, &more), GOODLOCK_OK);
-        save(session, name, "text", text);
-        save(session, name, "json", json);
+        text = print(session, goodlock_text, &report);
+        json = print(session, goodlock_json, &report);
+        expect(session, "cycles", goodlock_cycles(&report, &count, &more), GOODLOCK_OK);
+        save(session, name.text, "text", text);
+        save(session, name.text, "json", json);
+        session->longest = json.size > session->longest ? json.size : session->longest;
         free(json.bytes);
         goodlock_report_free(&report);
     } else if (code != GOODLOCK_INCONSISTENT) {
@@ -381,10 +419,17 @@ static struct written make_report(struct session *session, reporting *make)
     }
     if (report.at != NULL)
         fault(session, "a report isn't all zero after all");
-    trace = created(session, name, "std");
-    write_trace(trace, session);
-    fclose(trace);
-    printf("%s %u %u %u %u %zu %d\n", name, session->mode, session->length, session->most, code, cycles, more);
+    printf("%s %s %s %u %u %u %u %zu %d\n", name.text, trace->text, listed, session->mode, session->length,
+           session->most, code, count, more);
+    return text;
+}
+
+/* The same of cycles, and of findings; the text of cycles. */
+static struct written make_reports(struct session *session, const struct file_name *trace, reporting *of_cycles,
+                                   reporting *of_findings)
+{
+    const struct written text = make_report(session, trace, "cycles", of_cycles);
+    free(make_report(session, trace, "findings", of_findings).bytes);
     return text;
 }
 
@@ -462,8 +507,9 @@ static void collect(struct session *session)
     for (uint32_t ended = 0; ended < session->threads;) {
         ended += pull_some(session);
         if (reports > 0 && (session->by_lane || session->threads == 1) && chance(20)) {
+            const struct file_name trace = save_trace(session, false);
             reports--;
-            free(make_report(session, goodlock_report_so_far).bytes);
+            free(make_reports(session, &trace, goodlock_report_so_far, goodlock_findings_so_far).bytes);
         }
         if (chance(10))
             sched_yield();
@@ -487,11 +533,26 @@ static void name_all(struct session *session)
     }
 }
 
-/* Settles the session, which is refused while a lane is missing; its report is the one so far. */
+/* The reports of all that was recorded, before the session is settled and after: the same. */
+static void settle_with_reports(struct session *session)
+{
+    uint32_t thread;
+    const struct file_name trace = save_trace(session, false), by_mention = save_trace(session, true);
+    const struct written so_far = make_reports(session, &trace, goodlock_report_so_far, goodlock_findings_so_far);
+    struct written settled;
+    expect(session, "settle", goodlock_settle(&session->handle, &thread), GOODLOCK_OK);
+    settled = make_reports(session, &trace, goodlock_settled_report, goodlock_settled_findings);
+    if (so_far.size != settled.size || (so_far.size > 0 && memcmp(so_far.bytes, settled.bytes, so_far.size) != 0))
+        fault(session, "the settled report isn't the one so far");
+    free(so_far.bytes);
+    free(settled.bytes);
+    free(make_report(session, &by_mention, "findings", goodlock_findings_by_mention).bytes);
+}
+
+/* Settles the session, which is refused while a lane is missing. */
 static void settle(struct session *session)
 {
     uint32_t thread = UINT32_MAX;
-    struct written so_far, settled;
     const uint32_t last = below(session->threads);
     for (uint32_t t = 0; t < session->threads; t++) {
         session->pulled[t] = (uint32_t)session->lists[t].lawful;
@@ -502,13 +563,7 @@ static void settle(struct session *session)
     if (thread != last)
         fault(session, "thread %u is missing, not %u", last, thread);
     expect(session, "the last hand_in", goodlock_hand_in(&session->handle, &session->lanes[last]), GOODLOCK_OK);
-    so_far = make_report(session, goodlock_report_so_far);
-    expect(session, "settle", goodlock_settle(&session->handle, &thread), GOODLOCK_OK);
-    settled = make_report(session, goodlock_settled_report);
-    if (so_far.size != settled.size || (so_far.size > 0 && memcmp(so_far.bytes, settled.bytes, so_far.size) != 0))
-        fault(session, "the settled report isn't the one so far");
-    free(so_far.bytes);
-    free(settled.bytes);
+    settle_with_reports(session);
 }
 
 static void run(struct session *session)

@@ -2,6 +2,7 @@
 //
 //     library_wrapper locks       known reports of each kind of lock
 //     library_wrapper names       locks of one name, and of a name that tells such ones apart
+//     library_wrapper findings    reports of findings, so far and at the end
 //     library_wrapper memory      locks that get no number, and a thread that gets no lane, as memory is refused
 //     library_wrapper threads     many threads with small rings, of which some have no lane
 //     library_wrapper leave       main returns without finish(), while a thread records
@@ -156,6 +157,60 @@ static void names()
     check(result.text == TOLD_APART, "another text:\n" + result.text);
 }
 
+// Both pairs of locks are taken at the same two lines.
+static const char *const A_FINDING = "finding 1: 2 edges\n"
+                                     "  T3 holds a since wrapper:2 wants b at wrapper:3\n"
+                                     "    threads: 4, locks: 4\n"
+                                     "  T4 holds b since wrapper:2 wants a at wrapper:3\n"
+                                     "    threads: 4, locks: 4\n"
+                                     "findings: 1\n";
+
+// The findings so far, once all that was recorded is pulled.
+static goodlock::result findings_once_pulled()
+{
+    const auto end = std::chrono::steady_clock::now() + std::chrono::seconds(60);
+    goodlock::result result = goodlock::findings_so_far();
+    while (result.text != A_FINDING && std::chrono::steady_clock::now() < end) {
+        std::this_thread::sleep_for(std::chrono::milliseconds(10));
+        result = goodlock::findings_so_far();
+    }
+    return result;
+}
+
+// Below a gate a cycle counts in basic mode alone. Its places are its own, so there it is another finding.
+static void below_a_gate()
+{
+    goodlock::mutex gate("gate"), one("e"), other("f");
+    const auto take_all = [&gate](goodlock::mutex &first, goodlock::mutex &second) {
+        goodlock::guard<goodlock::mutex> outer(gate), inner(first), innermost(second);
+    };
+    one_by_one([&] { take_all(one, other); }, [&] { take_all(other, one); });
+}
+
+static void findings()
+{
+    check(goodlock::findings_so_far().code == GOODLOCK_MISUSE, "no findings without a session");
+    check(goodlock::finish_with_findings().code == GOODLOCK_MISUSE, "no end without a session");
+    check(goodlock::start(24, 64) == GOODLOCK_OK, "start");
+    goodlock::mutex a("a"), b("b"), c("c"), d("d");
+    below_a_gate();
+    opposite(a, b);
+    opposite(c, d);
+    const goodlock::result so_far = findings_once_pulled();
+    check(so_far.code == GOODLOCK_OK && !so_far.is_settled, "findings so far aren't settled");
+    check(so_far.cycles == 1 && !so_far.more, "there is one finding");
+    check(so_far.text == A_FINDING, "another text so far:\n" + so_far.text);
+    check(goodlock::findings_so_far(3).code == GOODLOCK_RANGE, "findings of no mode");
+    check(goodlock::findings_so_far(GOODLOCK_BASIC, 17).code == GOODLOCK_RANGE, "findings of no length");
+    check(goodlock::findings_so_far(GOODLOCK_BASIC, 2, 0).code == GOODLOCK_RANGE, "no findings at all");
+    check(goodlock::report_so_far().cycles == 2, "there are two cycles");
+    check(goodlock::findings_so_far(GOODLOCK_BASIC).cycles == 2, "there are two findings where gates don't count");
+    const goodlock::result result = goodlock::finish_with_findings(GOODLOCK_BASIC, 2, 1);
+    check(result.code == GOODLOCK_OK && result.is_settled && result.unrecorded == 0, "the findings are settled");
+    check(result.cycles == 1 && result.more, "one finding is listed, and there are more");
+    check(result.text.find("finding 1: 2 edges\n  T1 holds e since ") == 0, "another text:\n" + result.text);
+}
+
 // A thread without memory for its lane isn't recorded later either: that it began after main had taken the two locks in
 // the other order isn't known then.
 static void thread_without_a_lane()
@@ -248,6 +303,8 @@ int main(int count, char **words)
         locks();
     else if (word == "names")
         names();
+    else if (word == "findings")
+        findings();
     else if (word == "memory")
         memory();
     else if (word == "threads")
