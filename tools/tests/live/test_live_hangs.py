@@ -98,7 +98,8 @@ def test_round_tells_how_far_its_threads_are():
     assert len({tuple(found[:4] for found in rounds) for rounds in seen}) == 1, "the waits differ: %s" % seen
 
 
-def test_report_that_is_counted_alone():
+@pytest.mark.parametrize("findings", [False, True])
+def test_report_that_is_counted_alone(findings):
     """Nothing is written of it: a look for cycles takes what they take to be found, and not what all edges take as JSON."""
     from live import OK, WAY_COUNT, WAY_JSON, Question, answered_reports, copy_events, named_processes
 
@@ -106,10 +107,12 @@ def test_report_that_is_counted_alone():
     processes, _ = named_processes(recording, copy_events(recording), {}, False)
     (process,) = processes.values()
     for way, is_written in ((WAY_COUNT, False), (WAY_JSON, True)):
-        question = Question("full", 4, 1000)
+        question = Question("full", 4, 1000, findings)
         report = next(answered_reports(process, [None], question, way, recording.work_file("report")))
-        assert (report.code, report.cycles, report.more) == (OK, 1, False), report.fault()
-        assert bool(report.data) == is_written, report.data
+        assert (report.code, report.listed, report.more) == (OK, 1, False), report.fault()
+        assert bool(report.data) == is_written and (b'"findings":[[' in report.data) == (
+            is_written and findings
+        ), report.data
 
 
 def copied(rounds, began, took=0.0):
