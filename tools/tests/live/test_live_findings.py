@@ -228,6 +228,22 @@ def test_more_findings_than_are_listed():
     assert read_report()["more"] and len(read_report()["findings"]) == 1, live.said
 
 
+def test_findings_are_counted_alone():
+    """Of two threads against two over seven pairs there are 28 cycles, which are one finding. Nothing is written where it is counted."""
+    from live import OK, WAY_COUNT, WAY_JSON, Question, answered_reports, copy_events, named_processes
+    from recording import Recording
+
+    recording = Recording(os.path.realpath(left_behind("./live", "fault_stays", "2")))
+    processes, _ = named_processes(recording, copy_events(recording), {}, False)
+    (process,) = processes.values()
+    for findings, listed in ((False, 28), (True, 1)):
+        for way, is_written in ((WAY_COUNT, False), (WAY_JSON, True)):
+            question = Question("full", 4, 1000, findings)
+            report = next(answered_reports(process, [None], question, way, recording.work_file("report")))
+            assert (report.code, report.listed, report.more) == (OK, listed, False), report.fault()
+            assert bool(report.data) == is_written, report.data
+
+
 def is_short(line):
     """Whether a line has the finding of two orders, and no edge but those of its cycle."""
     edges = [(edge["thread"], edge["held"], edge["wanted"]) for edge in line["edges"]]

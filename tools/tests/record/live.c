@@ -522,6 +522,13 @@ static void one_fault(void)
         pthread_join(threads[i / number][i % number], NULL);
 }
 
+static void fault_stays(void)
+{
+    one_fault();
+    say_ready();
+    pause();
+}
+
 static void *takes_elsewhere(void *unused)
 {
     pthread_mutex_lock(&b); /* @elsewhere_first */
@@ -728,8 +735,8 @@ int main(int count, char **arguments)
         {"hangs", hangs}, {"holder_ended", holder_ended}, {"owner_died", owner_died}, {"ring", ring}, {"deletes_itself", deletes_itself},
         {"inherits", inherits}, {"joins", joins}, {"joins_in_a_row", joins_in_a_row}, {"ends", ends}, {"child_ends", child_ends},
         {"churn_and_gates", churn_and_gates}, {"two_buffers", two_buffers}, {"hangs_twice", hangs_twice},
-        {"comes_twice", comes_twice}, {"far_apart", far_apart}, {"one_fault", one_fault}, {"comes_elsewhere", comes_elsewhere},
-        {"twice_in_a_crowd", twice_in_a_crowd},
+        {"comes_twice", comes_twice}, {"far_apart", far_apart}, {"one_fault", one_fault}, {"fault_stays", fault_stays},
+        {"comes_elsewhere", comes_elsewhere}, {"twice_in_a_crowd", twice_in_a_crowd},
     };
     own_file = arguments[0];
     number = count > 2 ? atoi(arguments[2]) : 0;
