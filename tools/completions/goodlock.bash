@@ -60,7 +60,7 @@ _goodlock_recorder() {
 }
 
 _goodlock_record() {
-    _goodlock_recorder "--functions --live --every --mode --len --max"
+    _goodlock_recorder "--functions --live --every --mode --len --max --findings"
 }
 
 _goodlock_python() {

@@ -29,6 +29,7 @@ complete -c goodlock-record -x -l every -d 'A report so far every so many second
 complete -c goodlock-record -x -l mode -a 'basic guarded full' -d 'Which cycles count'
 complete -c goodlock-record -x -l len -d 'The most edges of a cycle'
 complete -c goodlock-record -x -l max -d 'The most cycles that are listed'
+complete -c goodlock-record -l findings -d 'Each finding once'
 complete -c goodlock-record -r -l convert -d 'Write the traces or reports of what was left behind'
 complete -c goodlock-record -l help -d 'Print help'
 complete -c goodlock-record -l version -d 'Print version'

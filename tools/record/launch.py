@@ -1,8 +1,8 @@
 """Records the lock events of a program, unchanged, as a trace that goodlock reads.
 
     goodlock-record [-o TRACE] [--frames N] [--functions] [--all] [--] PROGRAM [ARGUMENT..]
-    goodlock-record --live [--every S] [--mode M] [--len N] [--max N] [-o REPORT] [OPTION..] [--] PROGRAM [ARGUMENT..]
-    goodlock-record [--live [--mode M] [--len N] [--max N]] [-o FILE] [--functions] --convert DIRECTORY
+    goodlock-record --live [--every S] [--mode M] [--len N] [--max N] [--findings] [-o REPORT] [OPTION..] [--] PROGRAM [ARGUMENT..]
+    goodlock-record [--live [--mode M] [--len N] [--max N] [--findings]] [-o FILE] [--functions] --convert DIRECTORY
 
 -o TRACE, -o REPORT  the file, else goodlock.std, or goodlock.report with --live
 --frames N           show N callers in a location (1 to 16)
@@ -14,7 +14,9 @@
 --every S            with --live, add a report so far to REPORT.lines every S seconds
 --mode M             with --live, which cycles count, as in goodlock predict: basic, guarded, or full (full)
 --len N              with --live, the most edges that a cycle may have, 2 to 16 (4)
---max N              with --live, the most cycles that are listed, 1 to 100000 (1000)
+--max N              with --live, the most cycles or findings that are listed, 1 to 100000 (1000)
+--findings           with --live, list findings in place of cycles, as in goodlock predict: cycles that were made at the same
+                     places are one
 --convert DIRECTORY  no run: write the trace, or with --live the report, of what a recording left behind
 --help, --version    print this, print the version
 
@@ -43,13 +45,14 @@ LENGTHS, COUNTS = (2, 16), (1, 100000)
 MODE, LENGTH, COUNT = "full", 4, 1000
 USR1_WAS_DEFAULT = "GOODLOCK_RECORD_USR1"  # the script ignores that signal up to here
 LIVE_VALUES = ("every", "mode", "len", "max")  # options that take a value with --live alone
+LIVE_FLAGS = ("findings",)  # and that take none
 # The loader takes these in the path of a preload library as separators and variables.
 PRELOAD_SEPARATORS = " :$\t\n"
 LINK_DIRECTORIES = ("/tmp", "/var/tmp", "/dev/shm")
 
 USAGE = (
-    "usage: goodlock-record [--live [--every S] [--mode M] [--len N] [--max N]] [-o FILE] [--frames N] [--functions] [--all] "
-    "[--] PROGRAM [ARGUMENT..]"
+    "usage: goodlock-record [--live [--every S] [--mode M] [--len N] [--max N] [--findings]] [-o FILE] [--frames N] "
+    "[--functions] [--all] [--] PROGRAM [ARGUMENT..]"
 )
 
 
@@ -124,6 +127,7 @@ class Settings:
         self.functions = False
         self.live = False
         self.every = self.mode = self.len = self.max = None
+        self.findings = False
         self.convert = None
         self.command = []
 
@@ -204,9 +208,10 @@ def read_arguments(
 def read_own_arguments(arguments):
     """Those of goodlock-record: it can follow a program, too."""
     values = ("-o", "--frames", "--convert", *("--" + name for name in LIVE_VALUES))
-    settings = read_arguments(arguments, flags=("--all", "--live", "--functions"), values=values)
-    for name in LIVE_VALUES:
-        if getattr(settings, name) is not None and not settings.live:
+    flags = ("--all", "--live", "--functions", *("--" + name for name in LIVE_FLAGS))
+    settings = read_arguments(arguments, flags=flags, values=values)
+    for name in LIVE_VALUES + LIVE_FLAGS:
+        if getattr(settings, name) not in (None, False) and not settings.live:
             raise Failed("--%s is for --live\n%s" % (name, USAGE))
     return settings
 
@@ -337,7 +342,7 @@ def question_of(settings):
     """What the reports are to list."""
     from live import Question
 
-    return Question(settings.mode or MODE, settings.len or LENGTH, settings.max or COUNT)
+    return Question(settings.mode or MODE, settings.len or LENGTH, settings.max or COUNT, settings.findings)
 
 
 def exit_status(status):

@@ -41,7 +41,7 @@ from convert import (
 from family import FORWARDED, adopt_orphans
 from recording import maps_file
 
-WAY_JSON, WAY_SETTLED, WAY_SHORT, WAY_COUNT = 1, 2, 4, 8
+WAY_JSON, WAY_SETTLED, WAY_SHORT, WAY_COUNT, WAY_FINDINGS = 1, 2, 4, 8, 16
 MODES = {"basic": 0, "guarded": 1, "full": 2}  # as goodlock.h has them
 BATCH = 16  # windows that are reported at once
 # What the library answers, and what goodlock_live adds.
@@ -152,21 +152,23 @@ def named_processes(recording, copied, modules, with_functions):
 # --- Reports ---------------------------------------------------------------------------------------------
 
 
-# Which cycles count, how many edges they may have, and how many are listed.
-Question = namedtuple("Question", ("mode", "length", "most"))
+# Which cycles count, how many edges they may have, and how many are listed: of these, or of findings.
+Question = namedtuple("Question", ("mode", "length", "most", "findings"), defaults=(False,))
 
 
 class Report:
-    """What goodlock_live answered for one report, and what it wrote."""
+    """What goodlock_live answered for one report, and what it wrote. It lists so many cycles, or findings."""
 
-    def __init__(self, code, cycles, more, data):
+    def __init__(self, code, listed, more, data, findings=False):
         self.code = code
-        self.cycles = cycles
+        self.listed = listed
         self.more = more
         self.data = data
+        self.word = "finding" if findings else "cycle"
 
     def count(self):
-        return "%d cycle%s%s" % (self.cycles, "" if self.cycles == 1 else "s", " (more)" if self.more else "")
+        many = "" if self.listed == 1 else "s"
+        return "%d %s%s%s" % (self.listed, self.word, many, " (more)" if self.more else "")
 
     def fault(self):
         return CODES.get(self.code, "goodlock answers %d" % self.code)
@@ -175,6 +177,7 @@ class Report:
 def answered_reports(process, sets, question, ways, path):
     """A report for each of these sets of threads; None stands for all. Of several, each is a line of JSON."""
     names = process.names
+    ways += WAY_FINDINGS * question.findings
     files, packed = packed_files(names.order)
     parts = [packed, packed_numbers(process.no_locks), packed_texts(names.locks), packed_texts(names.places.all())]
     parts.append(array("Q", [MODES[question.mode], question.length, question.most, len(sets)]).tobytes())
@@ -187,10 +190,10 @@ def answered_reports(process, sets, question, ways, path):
     answer.frombytes(run_program("goodlock_live", ["report"], b"".join(parts)))
     with open(path, "rb") as file:
         for _ in sets:
-            code, cycles, more = answer[:3]
+            code, listed, more = answer[:3]
             del answer[:3]
             written = b"" if code != OK else file.read() if len(sets) == 1 else file.readline()
-            yield Report(code, cycles, more, written)
+            yield Report(code, listed, more, written, question.findings)
 
 
 def report_of(recording, process, question, is_settled, is_json, is_short):
@@ -200,18 +203,18 @@ def report_of(recording, process, question, is_settled, is_json, is_short):
     sets = windows(process)
     if not sets:
         return next(answered_reports(process, [None], question, ways, aside))
-    ways = WAY_SETTLED * is_settled + WAY_JSON + WAY_SHORT
+    is_counted = question.findings and not is_json  # of all edges
+    ways = WAY_SETTLED * is_settled + WAY_JSON + WAY_SHORT * (not is_counted)
     parts = [sets[at : at + BATCH] for at in range(0, len(sets), BATCH)]
     reports = (report for part in parts for report in answered_reports(process, part, question, ways, aside))
     return merged(reports, question, is_json)
 
 
 def merged(reports, question, is_json):
-    """The cycles of all these reports, each once, as one report."""
+    """The cycles or findings of all these reports, each once, as one report."""
     edges, cycles, more = {}, {}, False
-    # No `trim`: of cycles whose threads are in no window together nothing is known.
-    whole = {"cycles": [], "edges": [], "format": 2, "more": False, "trim": None}
-    whole.update(len=question.length, max=question.most, mode=question.mode)
+    key = "findings" if question.findings else "cycles"
+    counts = Counts()
     for report in reports:
         if report.code not in (OK, WITHOUT_EVENTS):
             return report
@@ -219,19 +222,49 @@ def merged(reports, question, is_json):
             continue
         part = json.loads(report.data)
         more = more or part["more"]
-        for cycle in part["cycles"]:
-            places = tuple(
-                edges.setdefault(identity(part["edges"][at]), (len(edges), part["edges"][at]))[0] for at in cycle
-            )
-            cycles.setdefault(places)
-    listed = list(cycles)[: question.most]
+        for cycle in part[key]:
+            found = [part["edges"][at] for at in cycle]
+            places = [edges.setdefault(identity(edge), (len(edges), edge))[0] for edge in found]
+            cycles.setdefault(signature(found) if question.findings else tuple(places), places)
+        if question.findings and not is_json:
+            counts.add(part["edges"])
+    listed = list(cycles.values())[: question.most]
     kept = sorted({at for cycle in listed for at in cycle})
     numbers = {at: number for number, at in enumerate(kept)}
+    # No `trim`: of cycles whose threads are in no window together nothing is known.
+    whole = {"format": 3} if question.findings else {"format": 2, "trim": None}
+    whole.update(len=question.length, max=question.most, mode=question.mode, more=more or len(cycles) > question.most)
     whole["edges"] = [edge for at, edge in edges.values() if at in numbers]
-    whole["cycles"] = [[numbers[at] for at in cycle] for cycle in listed]
-    whole["more"] = more or len(cycles) > question.most
-    text = json.dumps(whole, sort_keys=True, separators=(",", ":")) + "\n" if is_json else text_of(whole)
-    return Report(OK, len(listed), whole["more"], text.encode("utf-8", "surrogateescape"))
+    whole[key] = [[numbers[at] for at in cycle] for cycle in listed]
+    text = json.dumps(whole, sort_keys=True, separators=(",", ":")) + "\n" if is_json else text_of(whole, key, counts)
+    return Report(OK, len(listed), whole["more"], text.encode("utf-8", "surrogateescape"), question.findings)
+
+
+def signature(cycle):
+    """The pairs of places where these edges were made, one after the other round the cycle, wherever it begins."""
+    pairs = [places_of(edge) for edge in cycle]
+    return min(tuple(pairs[at:] + pairs[:at]) for at in range(len(pairs)))
+
+
+def places_of(edge):
+    return edge["held_at"], edge["wanted_at"]
+
+
+class Counts:
+    """For each pair of places how many threads made edges there, and how many locks these hold or want."""
+
+    def __init__(self):
+        self.threads, self.locks = {}, {}
+
+    def add(self, edges):
+        for edge in edges:
+            places = places_of(edge)
+            self.threads.setdefault(places, set()).add(edge["thread"])
+            self.locks.setdefault(places, set()).update((edge["held"], edge["wanted"]))
+
+    def line(self, edge):
+        places = places_of(edge)
+        return "    threads: %d, locks: %d" % (len(self.threads[places]), len(self.locks[places]))
 
 
 def identity(edge):
@@ -239,15 +272,17 @@ def identity(edge):
     return json.dumps([edge[key] for key in sorted(edge) if key not in ("first", "second", "place")])
 
 
-def text_of(report):
-    """A report as `goodlock predict` prints it."""
+def text_of(report, listed, counts):
+    """A report as `goodlock predict` prints it, of cycles, or of findings with what was counted."""
     lines = []
-    for number, cycle in enumerate(report["cycles"], 1):
-        lines.append("cycle %d: %d edges" % (number, len(cycle)))
+    for number, cycle in enumerate(report[listed], 1):
+        lines.append("%s %d: %d edges" % (listed[:-1], number, len(cycle)))
         for at in cycle:
             edge = {key: plain(value) for key, value in report["edges"][at].items() if isinstance(value, str)}
             lines.append("  {thread} holds {held} since {held_at} wants {wanted} at {wanted_at}".format(**edge))
-    lines.append("cycles: %d%s" % (len(report["cycles"]), " (more)" if report["more"] else ""))
+            if listed == "findings":
+                lines.append(counts.line(report["edges"][at]))
+    lines.append("%s: %d%s" % (listed, len(report[listed]), " (more)" if report["more"] else ""))
     return "\n".join(lines) + "\n"
 
 
@@ -286,7 +321,7 @@ class Followed:
         self.hash = None  # of its events at the last look
         self.reported = None  # of those that the last report is of
         self.told = None  # those that the last line is of
-        self.listed = 0, False  # cycles of the last report, and whether there are more
+        self.listed = 0, False  # cycles or findings of the last report, and whether there are more
         self.round = []
         self.since = None  # the threads of this round wait, and had no event
         self.hangs = None
@@ -388,31 +423,31 @@ class Follower:
             self.say("%s hangs: %s" % (described(process), round_text(process, copy.round)))
 
     def counted(self, process):
-        """A report that nobody may ask to see: the JSON of all its edges takes far longer, and far more memory, than to count the cycles.
-        None of windows, whose cycles are told apart by their edges.
+        """A report that nobody may ask to see: the JSON of all its edges takes far longer, and far more memory, than to count the cycles,
+        and mostly the findings. None of windows, whose cycles are told apart by their edges.
         """
         if windows(process):
             return None
         return next(answered_reports(process, [None], self.question, WAY_COUNT, self.recording.work_file("report")))
 
     def report(self, process, copy, path, why):
-        """Makes a report so far: it is written if somebody asked, and if it has more cycles than those before."""
+        """Makes a report so far: it is written if somebody asked, and if it has more cycles, or findings, than those before."""
         followed = self.followed[process.key]
         report = self.counted(process) if why == "quiet" else None
-        if report is None or (report.code == OK and (report.cycles, report.more) > followed.listed):
+        if report is None or (report.code == OK and (report.listed, report.more) > followed.listed):
             report = report_of(self.recording, process, self.question, False, True, True)
         followed.reported = copy.hash
         if report.code == WITHOUT_EVENTS:
             return
         if report.code != OK:
             raise ConvertError("%s: %s" % (path, report.fault()))
-        has_more = (report.cycles, report.more) > followed.listed
+        has_more = (report.listed, report.more) > followed.listed
         if why != "quiet" or has_more:
             if self.try_to_write(path + ".lines", report.data):
                 followed.told = copy.hash
         if has_more:
             self.say("%s.lines: %s so far; %s" % (path, report.count(), described(process)))
-        followed.listed = report.cycles, report.more
+        followed.listed = report.listed, report.more
 
     def try_to_write(self, path, data):
         """Adds a line; whether it could be. What standard error tells doesn't hang on it."""
@@ -553,9 +588,11 @@ class LiveSummary(Summary):
             yield line.replace("goodlock skips these", "the report skips these")
 
     def too_many_lines(self):
-        yield "%s: goodlock reads at most %d threads at once: the report has the cycles whose threads are in one of %d windows" % (
+        cycles = "findings of cycles" if self.report and self.report.word == "finding" else "cycles"
+        yield "%s: goodlock reads at most %d threads at once: the report has the %s whose threads are in one of %d windows" % (
             self.path,
             THREAD_LIMIT,
+            cycles,
             len(windows(self.process)),
         )
 

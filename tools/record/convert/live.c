@@ -18,13 +18,13 @@
  *     number of files;   a text each: the path
  *     number of locks that turned out to be none;   each: its number
  *     for locks and places: number of texts;   each: its number, a text
- *     mode, most edges of a cycle, and most cycles, as goodlock.h has them
+ *     mode, most edges of a cycle, and most cycles or findings, as goodlock.h has them
  *     number of reports;   each: a text, the path of its file, the sum of the ways below, and as follows
  *     for threads: number of texts;   each: its number, a text
  *     number of chunks;  each: file, thread, offset of its words in the file, how many
  *
- * It answers, for each report: what the library answered (WITHOUT_EVENTS: it was asked for nothing), how many cycles
- * are listed, and whether there are more.
+ * It answers, for each report: what the library answered (WITHOUT_EVENTS: it was asked for nothing), how many cycles or
+ * findings are listed, and whether there are more.
  */
 #define _GNU_SOURCE
 #include <stdbool.h>
@@ -34,10 +34,11 @@
 #include "goodlock.h"
 #include "request.h"
 
-#define WAY_JSON 1u    /* as JSON, else as text */
-#define WAY_SETTLED 2u /* of a process that has ended */
-#define WAY_SHORT 4u   /* of the JSON's edges only those of cycles */
-#define WAY_COUNT 8u   /* none of these: how many cycles there are is all that is asked for */
+#define WAY_JSON 1u      /* as JSON, else as text */
+#define WAY_SETTLED 2u   /* of a process that has ended */
+#define WAY_SHORT 4u     /* of the JSON's edges only those of the cycles that it lists, or by which it shows findings */
+#define WAY_COUNT 8u     /* none of these: how many cycles or findings there are is all that is asked for */
+#define WAY_FINDINGS 16u /* findings in place of cycles */
 #define WITHOUT_EVENTS 1000u
 
 #define RING 256u
@@ -860,6 +861,8 @@ static const char *object_end(const char *at, const char *end)
 }
 
 static const char before_edges[] = "],\"edges\":[", before_trim[] = "\"trim\":";
+static const char first_edges[] = "{\"edges\":[", before_findings[] = "],\"findings\":[";
+static const char before_format[] = "],\"format\":";
 
 static const char *found_in(const char *at, const char *end, const char *mark)
 {
@@ -871,13 +874,17 @@ static const char *found_in(const char *at, const char *end, const char *mark)
     return found;
 }
 
-/* Numbers the edges that stand in a cycle anew; gives the end of all edges. */
-static const char *edges_number(struct numbers *kept, const char *json, const char *edges, const char *end)
+/* Marks the edges of cycles whose positions stand here. */
+static void positions_mark(struct numbers *kept, const char *at, const char *end)
 {
-    for (const char *at = json; at < edges; at++)
+    for (; at < end; at++)
         if (*at >= '0' && *at <= '9')
             *number_at(kept, strtoull(at, (char **)&at, 10)) = 0;
-    const char *at = edges + strlen(before_edges);
+}
+
+/* Numbers the edges that are marked anew; gives the end of all edges. */
+static const char *edges_number(struct numbers *kept, const char *at, const char *end)
+{
     for (uint64_t i = 0; *at != ']'; i++) {
         if (number_of(kept, i) != NO_NUMBER)
             kept->of[i] = (uint32_t)kept->used++;
@@ -887,9 +894,9 @@ static const char *edges_number(struct numbers *kept, const char *json, const ch
     return at;
 }
 
-static void put_cycles(const struct numbers *kept, const char *json, const char *edges)
+static void put_positions(const struct numbers *kept, const char *at, const char *end)
 {
-    for (const char *at = json; at < edges;) {
+    while (at < end) {
         char digits[24];
         if (*at >= '0' && *at <= '9')
             output_put(digits, (size_t)snprintf(digits, sizeof digits, "%u", kept->of[strtoull(at, (char **)&at, 10)]));
@@ -916,14 +923,30 @@ static void put_edges(const struct report *report, const struct numbers *kept, c
 static void put_short(const struct report *report, const char *json, size_t size)
 {
     struct numbers kept = {NULL, 0, 0};
-    const char *end = json + size, *edges = found_in(json, end, before_edges);
-    const char *rest = edges_number(&kept, json, edges, end);
-    put_cycles(&kept, json, edges);
-    output_put(before_edges, strlen(before_edges));
-    put_edges(report, &kept, edges + strlen(before_edges), end);
+    const char *end = json + size, *edges = found_in(json, end, before_edges) + strlen(before_edges);
+    positions_mark(&kept, json, edges);
+    const char *rest = edges_number(&kept, edges, end);
+    put_positions(&kept, json, edges);
+    put_edges(report, &kept, edges, end);
     const char *trim = found_in(rest, end, before_trim) + strlen(before_trim);
     output_put(rest, (size_t)(trim - rest));
     output_put(*trim == '[' ? "[]}\n" : "null}\n", *trim == '[' ? 4 : 6);
+    free(kept.of);
+}
+
+/* The same of findings, with the edges of the cycles that show them. Its keys are edges, findings, format, .. */
+static void put_short_findings(const struct report *report, const char *json, size_t size)
+{
+    struct numbers kept = {NULL, 0, 0};
+    const char *end = json + size, *edges = found_in(json, end, first_edges) + strlen(first_edges);
+    const char *findings = found_in(edges, end, before_findings);
+    const char *rest = found_in(findings + strlen(before_findings), end, before_format);
+    positions_mark(&kept, findings, rest);
+    edges_number(&kept, edges, end);
+    output_put(first_edges, strlen(first_edges));
+    put_edges(report, &kept, edges, end);
+    put_positions(&kept, findings, rest);
+    output_put(rest, (size_t)(end - rest));
     free(kept.of);
 }
 
@@ -943,7 +966,7 @@ static void report_write(struct report *report, goodlock_report *made, uint64_t 
     if (output_file < 0)
         fail(path);
     if (report->code == GOODLOCK_OK && ways & WAY_SHORT)
-        put_short(report, (const char *)bytes, size);
+        (ways & WAY_FINDINGS ? put_short_findings : put_short)(report, (const char *)bytes, size);
     else if (report->code == GOODLOCK_OK)
         put_named(report, (const char *)bytes, size, ways & WAY_JSON ? "\"thread\":\"" : "\n  ", ways & WAY_JSON);
     output_flush();
@@ -953,29 +976,37 @@ static void report_write(struct report *report, goodlock_report *made, uint64_t 
     free(bytes);
 }
 
+/* Makes the report of what was recorded. */
+static uint32_t report_of(struct report *report, uint64_t ways, goodlock_report *made)
+{
+    typedef uint32_t making(goodlock_session *, uint32_t, uint32_t, uint32_t, goodlock_report *);
+    static making *const calls[2][2] = {{goodlock_report_so_far, goodlock_findings_so_far},
+                                        {goodlock_settled_report, goodlock_settled_findings}};
+    const struct question *question = &report->question;
+    return calls[(ways & WAY_SETTLED) != 0][(ways & WAY_FINDINGS) != 0](&report->session, question->mode,
+                                                                        question->length, question->most, made);
+}
+
 /* Records all events, and makes and writes the report. */
 static void report_session(struct request *request, struct report *report, const int *files, uint64_t ways,
                            const char *path, uint64_t *answer)
 {
     goodlock_report made = {NULL};
-    size_t cycles = 0;
+    size_t count = 0;
     bool more = false;
     session_open(report);
     report->thread = NO_THREAD;
     events_read(request, files, record_use, report);
     if (ways & WAY_SETTLED)
         session_settle(report);
-    uint32_t (*make)(goodlock_session *, uint32_t, uint32_t, uint32_t, goodlock_report *) =
-        ways & WAY_SETTLED ? goodlock_settled_report : goodlock_report_so_far;
     if (report->code == GOODLOCK_OK)
-        report->code =
-            make(&report->session, report->question.mode, report->question.length, report->question.most, &made);
+        report->code = report_of(report, ways, &made);
     if (report->code == GOODLOCK_OK)
-        report->code = goodlock_cycles(&made, &cycles, &more);
+        report->code = goodlock_cycles(&made, &count, &more);
     if (report->code == GOODLOCK_OK && !(ways & WAY_COUNT))
         report_write(report, &made, ways, path);
     goodlock_report_free(&made);
-    answer[1] = cycles;
+    answer[1] = count;
     answer[2] = more;
 }
 

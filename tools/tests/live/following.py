@@ -4,7 +4,7 @@ import json
 import os
 import subprocess
 
-from c_programs import Run
+from c_programs import Run, end, raw_directory
 from known_traces import LIMIT, RECORD, TOOLS, clear, compare, read_line, wait_for
 
 GOODLOCK = os.path.join(os.path.dirname(TOOLS), "goodlock")
@@ -23,9 +23,9 @@ def lines_of(path="r.json"):
 
 
 def cycles_in(report):
-    """The cycles of a report, each as its edges: thread, held lock, wanted lock."""
+    """The cycles of a report, or those that show its findings, each as its edges: thread, held lock, wanted lock."""
     edges = [(edge["thread"], edge["held"], edge["wanted"]) for edge in report["edges"]]
-    return [[edges[at] for at in cycle] for cycle in report["cycles"]]
+    return [[edges[at] for at in cycle] for cycle in report["findings" if report["format"] == 3 else "cycles"]]
 
 
 def read_report(path="r.json"):
@@ -101,9 +101,18 @@ class Live:
         return self
 
 
-def predicted(trace="t.std", options=()):
+def left_behind(*command):
+    """What a followed program leaves when it and its recorder are killed."""
+    live = Live(*command).is_ready()
+    live.process.kill()
+    live.end()
+    end(live.program)
+    return raw_directory("r.json")
+
+
+def predicted(trace="t.std", options=(), form="--json"):
     with open(trace, "rb") as file:
-        done = subprocess.run([GOODLOCK, "predict", "--json", *options], stdin=file, stdout=subprocess.PIPE)
+        done = subprocess.run([GOODLOCK, "predict", *form.split(), *options], stdin=file, stdout=subprocess.PIPE)
     assert done.returncode in (0, 1), "predict has status %d" % done.returncode
     return done.stdout
 

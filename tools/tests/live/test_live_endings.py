@@ -97,6 +97,8 @@ def test_wrong_arguments(words):
         ("--len 5", "--len is for --live"),
         ("--mode full", "--mode is for --live"),
         ("--max 1000", "--max is for --live"),
+        ("--findings", "--findings is for --live"),
+        ("--findings --convert nowhere", "--findings is for --live"),
         ("--live --len 1", "--len takes a number from 2 to 16"),
         ("--live --len 17", "--len takes a number from 2 to 16"),
         ("--live --len \u00b2", "--len takes a number from 2 to 16"),

@@ -108,7 +108,7 @@ def test_report_that_is_counted_alone():
     for way, is_written in ((WAY_COUNT, False), (WAY_JSON, True)):
         question = Question("full", 4, 1000)
         report = next(answered_reports(process, [None], question, way, recording.work_file("report")))
-        assert (report.code, report.cycles, report.more) == (OK, 1, False), report.fault()
+        assert (report.code, report.listed, report.more) == (OK, 1, False), report.fault()
         assert bool(report.data) == is_written, report.data
 
 

@@ -6,7 +6,18 @@ import subprocess
 
 import pytest
 from c_programs import MARKS, end, raw_directory
-from following import Live, compare_bytes, cycles_in, lines_of, predicted, read_report, recorded, report_later, reported
+from following import (
+    Live,
+    compare_bytes,
+    cycles_in,
+    left_behind,
+    lines_of,
+    predicted,
+    read_report,
+    recorded,
+    report_later,
+    reported,
+)
 from known_traces import NO_EVENTS, RECORD, compare, wait_for
 
 
@@ -63,15 +74,6 @@ def test_same_report_as_by_a_trace_on_random_events(seed, options):
     assert done.status == 0, done.said
     recorded(*command, options=options)
     compare_bytes("r.json", predicted())
-
-
-def left_behind(*command):
-    """What a followed program leaves when it and its recorder are killed."""
-    live = Live(*command).is_ready()
-    live.process.kill()
-    live.end()
-    end(live.program)
-    return raw_directory("r.json")
 
 
 @pytest.mark.parametrize("seed", range(4))

@@ -488,6 +488,90 @@ static void churn_and_gates(void)
     gates();
 }
 
+/* One fault: some threads take the two locks of each pair in one order, and as many others in the other one. */
+enum { PAIRS = 7 };
+
+static pthread_mutex_t books[PAIRS], pages[PAIRS];
+
+static void *writes(void *unused)
+{
+    for (int i = 0; i < PAIRS; i++) {
+        pthread_mutex_lock(&books[i]); /* @writes_first */
+        pthread_mutex_lock(&pages[i]); /* @writes_second */
+        pthread_mutex_unlock(&pages[i]);
+        pthread_mutex_unlock(&books[i]);
+    }
+    return unused;
+}
+
+static void *reads(void *unused)
+{
+    for (int i = 0; i < PAIRS; i++) {
+        pthread_mutex_lock(&pages[i]); /* @reads_first */
+        pthread_mutex_lock(&books[i]); /* @reads_second */
+        pthread_mutex_unlock(&books[i]);
+        pthread_mutex_unlock(&pages[i]);
+    }
+    return unused;
+}
+
+static void one_fault(void)
+{
+    pthread_t threads[2][100];
+    for (int i = 0; i < 2 * number; i++) {
+        pthread_create(&threads[i / number][i % number], NULL, i < number ? writes : reads, NULL);
+        wait_for_others();
+    }
+    for (int i = 0; i < 2 * number; i++)
+        pthread_join(threads[i / number][i % number], NULL);
+}
+
+static void fault_stays(void)
+{
+    one_fault();
+    say_ready();
+    pause();
+}
+
+static void *takes_elsewhere(void *unused)
+{
+    pthread_mutex_lock(&b); /* @elsewhere_first */
+    pthread_mutex_lock(&gate); /* @elsewhere_second */
+    pthread_mutex_unlock(&gate);
+    pthread_mutex_unlock(&b);
+    return unused;
+}
+
+/* There is a cycle. When a line is read another one comes, of another lock at the same places, and at the next line one at other
+ * places. */
+static void comes_elsewhere(void)
+{
+    char line[16];
+    pthread_t thread;
+    pthread_create(&thread, NULL, gated_way, NULL);
+    in_turn(one_way, other_way);
+    say_ready();
+    if (fgets(line, sizeof line, stdin))
+        both(&b, &gate);
+    if (!fgets(line, sizeof line, stdin))
+        return;
+    pthread_create(&thread, NULL, takes_elsewhere, NULL);
+    pause();
+}
+
+/* One thread of either kind, and again at the end, where the other one is first. So many of the first kind come and go in between,
+ * while no other one runs. */
+static void twice_in_a_crowd(void)
+{
+    pthread_t thread;
+    in_turn(writes, reads);
+    for (int i = 0; i < number; i++) {
+        pthread_create(&thread, NULL, writes, NULL);
+        pthread_join(thread, NULL);
+    }
+    in_turn(reads, writes);
+}
+
 static volatile sig_atomic_t taken;
 
 static void takes(int unused)
@@ -655,7 +739,8 @@ int main(int count, char **arguments)
         {"hangs", hangs}, {"holder_ended", holder_ended}, {"owner_died", owner_died}, {"ring", ring}, {"deletes_itself", deletes_itself},
         {"inherits", inherits}, {"joins", joins}, {"joins_in_a_row", joins_in_a_row}, {"ends", ends}, {"child_ends", child_ends},
         {"churn_and_gates", churn_and_gates}, {"two_buffers", two_buffers}, {"hangs_twice", hangs_twice},
-        {"comes_twice", comes_twice}, {"far_apart", far_apart},
+        {"comes_twice", comes_twice}, {"far_apart", far_apart}, {"one_fault", one_fault}, {"fault_stays", fault_stays},
+        {"comes_elsewhere", comes_elsewhere}, {"twice_in_a_crowd", twice_in_a_crowd},
     };
     own_file = arguments[0];
     number = count > 2 ? atoi(arguments[2]) : 0;
