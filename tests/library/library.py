@@ -474,7 +474,8 @@ class Tests:
             self.passed += max(0, last - first - len(faults))
             for fault in faults:
                 self.check(f"{name}", False, fault)
-        print(f"{name}: {len(numbers)} sessions, {reports} reports, {cyclic} that list some, {inconsistent} inconsistent")
+        told = f"{reports} reports, {cyclic} that list some, {inconsistent} inconsistent"
+        print(f"{name}: {len(numbers)} sessions, {told}")
 
     def driver(self, output, *words):
         source = HERE / "sessions.c"
