@@ -1,6 +1,6 @@
 #!/usr/bin/env python3
-"""Time and memory of goodlock, a plain and a tuned Rust program on traces whose edges lie in one knot, or whose names
-were chosen to collide.
+"""Time and memory of goodlock, a plain and a tuned Rust program on traces whose edges lie in one knot, whose names were
+chosen to collide, or which are like those of programs.
 
     bench/knots.py [--seconds N] [--cores LIST] [--shapes LIST] [--query WORDS] [--sizes small|large] [--runs N] [PROGRAM]
 
@@ -20,11 +20,14 @@ import tempfile
 import time
 import typing
 
+from families import FAMILIES
+
 HERE = os.path.dirname(os.path.realpath(__file__))
 LAUNCHER = os.path.join(os.path.dirname(HERE), "goodlock")
 FOLDER = os.environ.get("BENCH_DIR", "/tmp/goodlock-bench")
 
-# The options of bench/make_trace.py for each shape, by size; behind `ask` what is asked in place of --query.
+# The options of bench/make_trace.py, or of bench/families.py for a family, for each shape, by size; behind `ask` what is
+# asked in place of --query.
 SHAPES = {
     "gated-requests": {
         "small": ["--threads 100", "--threads 200"],
@@ -132,6 +135,52 @@ SHAPES = {
     "layers": {"small": ["--sections 4000"], "large": ["", "--threads 16 --depth 5 --locks 40 ask --len 4"]},
     "colliding-names": {"small": ["--locks 10000"], "large": ["--locks 100000"]},
     "ordinary-names": {"small": ["--locks 10000"], "large": ["--locks 100000"]},
+    # Families: first as they are.
+    "modules": {
+        "small": [""],
+        "large": [
+            "--threads-of-module 2 --sections 400 --depth 8",
+            "--threads-of-module 4 --locks 30 --depth 8 --depth-of-linker 4 ask --len 5",
+            "--gated 0.97 --sections 300",
+        ],
+    },
+    "subsystems": {"small": [""], "large": ["--sections 400 --depth 5"]},
+    "gate-subsets": {
+        "small": [""],
+        "large": ["--threads 200 --locks 12 --sections 30", "--layers 5 --gates 9 --locks 12 ask --len 5"],
+    },
+    "pool": {
+        "small": [""],
+        "large": [
+            "--waves 30 --threads-of-wave 5 --locks 15 --sections 20 --depth 6 --lasting 0",
+            "--waves 30 --threads-of-wave 10 --locks 15 --depth 6 ask --len 5",
+        ],
+    },
+    "pipeline": {"small": [""], "large": ["--locks 3 --sections 6 --overlap 2"]},
+    "database": {
+        "small": ["", "--threads 8 --pages 20 --readers 0.9 --backups 0 --checkpoints 0 ask --len 5"],
+        "large": [
+            "--disorder 0 --checkpoints 0",
+            "--threads 60 --tables 4 --pages 80 --readers 0.9 --backups 0 --checkpoints 0 ask --max 100000",
+        ],
+    },
+    "hierarchy": {"small": [""], "large": ["--threads 80 --rows 3 --escalated 0.01 ask --max 100000"]},
+    "turnstile": {
+        "small": ["", "--lanes 1"],
+        "large": ["--lanes 5 --requests 60 --locks 15 --depth 6 --by-main ask --len 6"],
+    },
+    "cohorts": {"small": ["", "--guards-of-section 3 --shared 0.3"], "large": ["--kinds 2 --threads-of-kind 60"]},
+    "handover": {
+        "small": ["", "--threads 100 --depth 5 --sections 20 --fan 3 ask --len 6"],
+        "large": ["--depth 9 --no-gated ask --len 6"],
+    },
+    "grid": {"small": ["--side 6 --back 0.1"], "large": ["", "--side 5 --threads 150"]},
+    "work-stealing": {"small": [""], "large": ["--disorder 0.05 --gated 1"]},
+    "stripes": {"small": [""], "large": ["--depth 4 --locks 100", "--disorder 0.02 --gated"]},
+    "shards": {"small": [""], "large": ["--disorder 0"]},
+    "recursive": {"small": [""], "large": ["--sections 200 --gated 1 ask --max 100000"]},
+    "back-off": {"small": [""], "large": ["--tried 0.95 --depth 6"]},
+    "gui": {"small": [""], "large": ["--gated 1 --gates 1 --inner 0"]},
 }
 
 
@@ -222,7 +271,8 @@ def main():
                 settings, _, asked = row.partition(" ask ")
                 query = (asked or options.query).split()
                 with tempfile.NamedTemporaryFile(suffix=".std") as trace:
-                    maker = [sys.executable, os.path.join(HERE, "make_trace.py"), "--shape", shape, *settings.split()]
+                    script, *words = ["families.py"] if shape in FAMILIES else ["make_trace.py", "--shape"]
+                    maker = [sys.executable, os.path.join(HERE, script), *words, shape, *settings.split()]
                     subprocess.run(maker, stdout=trace, check=True)
                     results = [[] for _ in programs]
                     for turn in range(options.runs):

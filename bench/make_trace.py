@@ -216,12 +216,13 @@ class Maker:
         return texts
 
 
-def nested(thread, file, locks):
-    """The thread takes these locks one inside the other and releases them."""
-    for place, lock in enumerate(locks, 10):
-        yield f"{thread}|acq({lock})|{file}:{place}"
-    for place, lock in enumerate(reversed(locks), 30):
-        yield f"{thread}|rel({lock})|{file}:{place}"
+def nested(thread, file, locks, words=()):
+    """The thread takes these locks one inside the other, by these words or else by acq, and releases them."""
+    taken = [*zip(itertools.chain(words, itertools.repeat("acq")), locks)]
+    for place, (word, lock) in enumerate(taken, 10):
+        yield f"{thread}|{word}({lock})|{file}:{place}"
+    for place, (word, lock) in enumerate(reversed(taken), 30):
+        yield f"{thread}|{'rrel' if 'racq' in word else 'rel'}({lock})|{file}:{place}"
 
 
 def piece(thread, k, sections, gates=()):

@@ -1,4 +1,5 @@
-"""The shapes that are made after recorded servers, those with drawn sections, and what describe.py tells of traces.
+"""The shapes that are made after recorded servers, those with drawn sections, families of programs, and what describe.py
+tells of traces.
 
     tests/by_pytest.py bench
 
@@ -6,6 +7,7 @@ PROGRAM is goodlock's (the carried one): its `stats` says whether a trace is law
 """
 
 import functools
+import math
 import os
 import pathlib
 import subprocess
@@ -17,6 +19,8 @@ BENCH = pathlib.Path(__file__).resolve().parent
 sys.path.insert(0, str(BENCH))
 
 import describe  # noqa: E402
+import families  # noqa: E402
+import knots  # noqa: E402
 import make_trace  # noqa: E402
 
 PROGRAM = os.environ.get("PROGRAM", BENCH.parent / "prebuilt" / "goodlock")
@@ -24,6 +28,7 @@ SERVER = BENCH / "traces" / "cache-server.std.xz"
 SHAPES = sorted(make_trace.SERVERS)
 DENSE = sorted(make_trace.DENSE)
 DRAWN = sorted({**make_trace.NESTED, **make_trace.TURNS, **make_trace.WRITERS})
+FAMILIES = sorted(families.FAMILIES)
 SEARCH_LEAST = ("--len", "2", "--max", "1")
 SAMPLES = sorted({*(BENCH.parent / "samples").glob("*.std")} - {BENCH.parent / "samples" / "bad_line.std"})  # refused
 COUNTS = ("events", "threads", "locks", "segments", "edges")
@@ -56,9 +61,54 @@ T0|rel(a)|p97
 """
 
 
-def made(shape, events, *options):
-    command = [sys.executable, BENCH / "make_trace.py", "--shape", shape, "--events", str(events), *options]
+# Families of which something takes all cycles of four edges away, and what leaves some.
+CYCLES_TAKEN_AWAY = [
+    # each module is under its one gate, and nothing links them
+    ("modules --linkers 0", "modules --linkers 0 --gated 0"),
+    # a cycle through modules leaves one and comes back, which one thread can't do
+    ("modules", "modules --linkers 2"),
+    ("subsystems --gated 1 --gates 1 --links 0", "subsystems --gated 1 --gates 2 --links 0"),
+    # of four pairs of seven gates two have one in common; eight gates make four pairs
+    ("gate-subsets", "gate-subsets --gates 8"),
+    # each wave has one order
+    ("pool --lasting 0", "pool --lasting 1"),
+    # the ring of stages is longer than that
+    ("pipeline --disorder 0", "pipeline --disorder 0 --stages 4"),
+    ("grid --side 5", "grid --side 4"),
+    # tables are only read, and there is one page
+    ("database --pages 0 --checkpoints 0 --readers 1", "database --pages 0 --checkpoints 0"),
+    # one path from the database to its row
+    ("hierarchy --tables 1 --pages 1 --rows 1", "hierarchy --tables 1 --pages 1 --rows 2"),
+    # one after the other
+    ("pipeline --stages 2 --overlap 0", "pipeline --stages 2 --overlap 1"),
+    ("turnstile --lanes 1", "turnstile --lanes 2"),
+    # always one order
+    ("cohorts --kinds 1", "cohorts --kinds 2"),
+    ("handover --upward 0", "handover"),
+    ("work-stealing --disorder 0", "work-stealing"),
+    ("stripes --disorder 0", "stripes"),
+    # the resizes alone are out of order, and keep all others out
+    ("shards --disorder 0", "shards"),
+    # all are under one gate
+    ("recursive --gated 1 --gates 1", "recursive --gated 1 --gates 2"),
+    ("gui --gated 1 --gates 1 --sections-of-gui 0", "gui --gated 1 --gates 1"),
+    # what is tried isn't waited for
+    ("back-off --tried 1", "back-off"),
+]
+
+
+def output_of(script, *words):
+    command = [sys.executable, BENCH / script, *words]
     return subprocess.run(command, capture_output=True, text=True, check=True).stdout
+
+
+def made(shape, events, *options):
+    return output_of("make_trace.py", "--shape", shape, "--events", str(events), *options)
+
+
+@functools.lru_cache(maxsize=None)
+def made_of_family(words):
+    return output_of("families.py", *words.split())
 
 
 @functools.lru_cache(maxsize=None)
@@ -339,3 +389,76 @@ def test_tries_are_asked_for_by_their_share():
 @pytest.mark.parametrize("shape", SHAPES)
 def test_few_locks_and_threads_are_enough(shape):
     assert stats_of(made(shape, 2_000, "--locks", "1", "--threads", "3"))["stray"] == 0
+
+
+@pytest.mark.parametrize("family", FAMILIES)
+def test_family_is_lawful(family):
+    text = made_of_family(family)
+    counted = stats_of(text, *SEARCH_LEAST)
+    assert counted["skipped"] == counted["stray"] == 0
+    figures = figures_in(text)
+    assert [figures[name] for name in COUNTS] == [counted[name] for name in COUNTS]
+
+
+@pytest.mark.parametrize("family", FAMILIES)
+def test_each_lock_of_a_family_has_one_holder_or_readers(family):
+    holders = {}  # by lock, each as often as it holds it
+    for thread, word, lock in calls_of(made_of_family(family)):
+        if word in ("rel", "rrel"):
+            holders[lock].remove((thread, word == "rrel"))
+        elif word not in ("fork", "join"):
+            is_shared, those = "racq" in word, holders.setdefault(lock, [])
+            assert all(holder == thread or is_shared and is_other_shared for holder, is_other_shared in those)
+            those.append((thread, is_shared))
+    assert not any(holders.values())
+
+
+@pytest.mark.parametrize("family", FAMILIES)
+def test_same_seed_same_trace_of_a_family(family):
+    text = made_of_family(f"{family} --seed 5")
+    assert text == output_of("families.py", family, "--seed", "5") != made_of_family(f"{family} --seed 6")
+
+
+@pytest.mark.parametrize("family", FAMILIES)
+def test_each_acquire_has_a_place_of_its_own_where_it_is_asked_for(family):
+    by_code, own = made_of_family(family), made_of_family(f"{family} --place own")
+    assert [*calls_of(own)] == [*calls_of(by_code)]
+    of_code, of_own = (
+        [line.rpartition("|")[2] for line in text.splitlines() if "acq(" in line] for text in (by_code, own)
+    )
+    assert len({*of_own}) == len(of_own) > 10 * len({*of_code})
+
+
+@pytest.mark.parametrize("without, with_some", CYCLES_TAKEN_AWAY)
+def test_families_whose_cycles_are_taken_away(without, with_some):
+    assert stats_of(made_of_family(without))["cycles"] == 0 < stats_of(made_of_family(with_some))["cycles"]
+
+
+def test_cycles_of_a_grid_go_round():
+    """Round each of four rows and four columns, with any four of the five threads, each of which makes all edges."""
+    counted = stats_of(made_of_family("grid --side 4 --threads 5 --sections 1000"))
+    assert counted["edges"] == 5 * 2 * 4 * 4
+    assert counted["cycles"] == (4 + 4) * math.perm(5, 4)
+
+
+@pytest.mark.parametrize("words", ["handover", "handover --no-gated", "recursive --gated 1"])
+def test_cycles_in_a_tree_or_under_two_gates_have_two_edges(words):
+    two, four = (stats_of(made_of_family(words), "--len", most, "--max", "100000")["cycles"] for most in "24")
+    assert 0 < two == four < 100_000
+
+
+def test_tries_make_no_edges():
+    assert stats_of(made_of_family("back-off --tried 1"))["edges"] == 0
+
+
+def test_a_family_that_cant_be_is_refused():
+    command = [sys.executable, BENCH / "families.py", "database", "--tables", "2"]
+    done = subprocess.run(command, capture_output=True, text=True)
+    assert done.returncode == 2 and done.stdout == "" and "there is no such trace" in done.stderr
+
+
+def test_families_are_shapes_of_knots():
+    assert {*FAMILIES} <= {*knots.SHAPES} and {*FAMILIES}.isdisjoint(make_trace.SETTINGS)
+    for family in FAMILIES:
+        for row in knots.SHAPES[family]["small"] + knots.SHAPES[family]["large"]:
+            families.parser_of_options().parse_args([family, *row.partition(" ask ")[0].split()])

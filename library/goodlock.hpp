@@ -23,6 +23,9 @@
 //   in turn, so where many threads record more than it can pull, all of them go at its pace.
 // - What can't be recorded (more threads than lanes, an event that is refused, as the unlock of a mutex that was locked before
 //   start(), a lock at whose first use the session has no memory for its name) is counted in `unrecorded`, and the lock works all the same.
+// - A thread's lane ends among the destructors of its pthread keys: what destructors of its thread_locals lock is recorded, and what
+//   those of keys lock is, or is counted in `unrecorded` where they come later. (A thread whose first lock of all is taken in the last
+//   round of such destructors keeps its lane, and the report isn't settled.)
 // - finish() may be called while threads record: what they do from then on isn't recorded, and the report isn't settled.
 // - finish_with_findings() and findings_so_far() list findings in place of cycles: where threads that run the same code over many
 //   locks have thousands of cycles, each fault once.
@@ -37,6 +40,7 @@
 #include <chrono>
 #include <cstdint>
 #include <mutex>
+#include <new>
 #include <pthread.h>
 #include <string>
 #include <system_error>
@@ -121,10 +125,14 @@ public:
 
     bool is_open() const { return open.load(std::memory_order_acquire); }
 
-    uint32_t start(uint64_t number, uint32_t threads, uint32_t ring) {
+    // `at_thread_end`: ends what a thread has.
+    uint32_t start(uint64_t number, uint32_t threads, uint32_t ring, void (*at_thread_end)(void *)) {
         std::lock_guard<session_mutex> hold(mutex);
         if (has_started)
             return GOODLOCK_MISUSE;
+        if (!has_key && pthread_key_create(&key, at_thread_end) != 0)
+            return GOODLOCK_MEMORY;
+        has_key = true;
         const uint32_t code = goodlock_open(number, threads, ring, &session);
         if (code != GOODLOCK_OK)
             return code;
@@ -196,6 +204,7 @@ public:
 
     std::atomic<uint64_t> unrecorded{0};
     std::atomic<uint32_t> made{0}; // locks without a name
+    pthread_key_t key;             // of what each thread has, once there is a session
 
 private:
     world() = default;
@@ -296,27 +305,29 @@ private:
     std::bitset<1024> has_ended;                     // the lanes, as many as there may be, whose end mark was pulled
     std::unordered_map<std::string, unsigned> names; // of locks, and the last number that was set behind each
     std::thread collector;
-    bool has_started = false;
+    bool has_key = false, has_started = false;
     std::atomic<bool> open{false}, is_ending{false};
 };
 
-// What a thread has: its lane and the numbers of the places that it passed.
+// What a thread has: its lane and the numbers of the places that it passed. It ends with the thread's keys, which come after
+// its thread_locals: so what the destructors of these lock is recorded, whichever was built first.
 class mine {
 public:
     // Nothing where the thread isn't recorded.
     static mine *get() {
         if (!world::get().is_open() || is_over())
             return nullptr;
-        static thread_local mine own;
-        own.begin();
-        return own.lane.at == nullptr ? nullptr : &own;
+        mine *const own = current() != nullptr ? current() : begun();
+        return own == nullptr || own->lane.at == nullptr ? nullptr : own;
     }
 
     // Gives the thread the lane that was opened for it. Where recording has stopped since, the lane ends.
     static void adopt(goodlock_lane lane) {
         given() = lane;
-        if (get() == nullptr)
-            world::get().end(given());
+        if (get() != nullptr)
+            return;
+        leave_out();
+        world::get().end(given());
     }
 
     // The thread gets no lane, now or later: its fork isn't recorded, and without that what it does would seem to happen
@@ -324,9 +335,20 @@ public:
     static void leave_out() { is_left_out() = true; }
 
     static void finish() {
-        mine *const own = get();
-        if (own != nullptr)
+        if (get() == nullptr)
+            return;
+        pthread_setspecific(world::get().key, nullptr);
+        end(current());
+    }
+
+    // At the thread's end.
+    static void end(void *value) {
+        mine *const own = static_cast<mine *>(value);
+        is_over() = true;
+        current() = nullptr;
+        if (own->lane.at != nullptr)
             world::get().end(own->lane);
+        delete own;
     }
 
     uint32_t place(const line &at) {
@@ -342,21 +364,37 @@ public:
 
 private:
     mine() = default;
-    ~mine() {
-        is_over() = true;
-        if (lane.at != nullptr)
-            world::get().end(lane);
+
+    // Keeps the library loaded that this is part of: by a thread_local whose destructor is to come. In what GCC makes the
+    // static objects of inline functions do so.
+    static void keep_loaded() {
+#ifdef __clang__
+        struct kept {
+            ~kept() {}
+        };
+        static thread_local kept library;
+        (void)library;
+#endif
     }
 
-    void begin() {
-        if (has_begun)
-            return;
-        has_begun = true;
-        lane = given();
-        if (lane.at == nullptr && !is_left_out())
-            world::get().lane(lane);
+    static mine *begun() {
+        keep_loaded();
+        mine *const own = new (std::nothrow) mine;
+        if (own == nullptr || pthread_setspecific(world::get().key, own) != 0) {
+            delete own;
+            return nullptr;
+        }
+        current() = own;
+        own->lane = given();
+        if (own->lane.at == nullptr && !is_left_out())
+            world::get().lane(own->lane);
+        return own;
     }
 
+    static mine *&current() {
+        static thread_local mine *own = nullptr;
+        return own;
+    }
     static bool &is_over() {
         static thread_local bool over = false;
         return over;
@@ -370,7 +408,6 @@ private:
         return left_out;
     }
 
-    bool has_begun = false;
     std::unordered_map<line, uint32_t, line_hash> places;
 };
 
@@ -505,7 +542,7 @@ private:
 // Opens the session of the process, once: lanes for so many threads, each with a ring of so many notes. The calling thread is
 // T0 in reports. The number is the session's, where the process has others by goodlock_open.
 inline uint32_t start(uint32_t threads = 64, uint32_t ring = 4096, uint64_t number = 1) {
-    const uint32_t code = detail::world::get().start(number, threads, ring);
+    const uint32_t code = detail::world::get().start(number, threads, ring, detail::mine::end);
     if (code == GOODLOCK_OK)
         detail::mine::get();
     return code;

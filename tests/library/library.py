@@ -514,7 +514,7 @@ class Tests:
         for name, words in BUILDS.items():
             c = ["g++", "-std=c++17", *STRICT, f"-I{HEADERS}", *words, source, ARCHIVE, *WRAPS]
             if self.build(f"wrapper_{name}", *c, "-lpthread"):
-                for word in ("locks", "names", "findings", "memory", "threads", "leave"):
+                for word in ("locks", "names", "findings", "memory", "threads", "ends", "leave"):
                     self.counted(f"wrapper, {word}, {name}", f"wrapper_{name}", word, env=environment)
             self.busy(name, "g++", "c++11", *words)
         # Not by thread: gcc's doesn't know pthread_mutex_clocklock, by which std's limits of time go.
@@ -669,9 +669,9 @@ class Tests:
                     self.counted(f"debug, names, {word}, {name}", f"debug_names_{name}", word)
             rest = [*c, *(AS_WRITTEN if name == "plain" else more), ARCHIVE, "-lpthread"]
             if self.build(f"debug_wrapper_{name}", "g++", "-std=c++17", HERE / "wrapper.cc", *rest, *WRAPS):
-                for word in ("locks", "names", "findings", "memory", "threads"):
+                for word in ("locks", "names", "findings", "memory", "threads", "ends"):
                     self.counted(f"debug, wrapper, {word}, {name}", f"debug_wrapper_{name}", word, env=environment)
-                self.left(f"debug, wrapper, leave, {name}", 1, f"debug_wrapper_{name}", "leave")
+                self.left(f"debug, wrapper, leave, {name}", 2, f"debug_wrapper_{name}", "leave")
             self.busy(f"debug {name}", "g++", "c++17", DEBUG, *(AS_WRITTEN if name == "plain" else more))
         for source, compiler, right in (("bank.c", "gcc", BY_NAME), ("named.c", "gcc", BY_ADDRESS)):
             if self.build(f"debug_{source}.run", compiler, *OPTIMISED, EXAMPLES / source, *c, ARCHIVE, "-lpthread"):

@@ -61,14 +61,18 @@ static const char FINDING[] = "finding 1: 2 edges\n"
 static const char FINDING_JSON_END[] =
     "\"findings\":[[0,1]],\"format\":3,\"len\":4,\"max\":1000,\"mode\":\"full\",\"more\":false}\n";
 
-/* The calls that make findings. */
+/* The calls that make reports and findings, and what they say of the two threads. */
 static const struct maker {
     const char *name;
     uint32_t (*make)(goodlock_session *, uint32_t, uint32_t, uint32_t, goodlock_report *);
     bool is_of_settled;
-} MAKERS[] = {{"findings so far", goodlock_findings_so_far, false},
-              {"settled findings", goodlock_settled_findings, true},
-              {"findings by mention", goodlock_findings_by_mention, true}};
+    const char *text;
+} MAKERS[] = {{"report so far", goodlock_report_so_far, false, EXPECTED},
+              {"settled report", goodlock_settled_report, true, EXPECTED},
+              {"report by mention", goodlock_report_by_mention, true, EXPECTED},
+              {"findings so far", goodlock_findings_so_far, false, FINDING},
+              {"settled findings", goodlock_settled_findings, true, FINDING},
+              {"findings by mention", goodlock_findings_by_mention, true, FINDING}};
 enum { COUNT_OF_MAKERS = sizeof MAKERS / sizeof *MAKERS };
 
 static uint32_t number(uint32_t (*call)(goodlock_session *, const uint8_t *, size_t, uint32_t *),
@@ -325,6 +329,14 @@ static void refuse_each_of_findings(goodlock_session *session, const struct make
     check(calls > 5 && told > 5, "findings asked for memory, which was refused");
 }
 
+static void refuse_findings_at(goodlock_session *session, bool is_settled)
+{
+    for (unsigned i = 0; i < COUNT_OF_MAKERS; i++)
+        for (int way = 0; way < 2; way++)
+            if (MAKERS[i].text == FINDING && MAKERS[i].is_of_settled == is_settled)
+                refuse_each_of_findings(session, &MAKERS[i], way == 1);
+}
+
 static void refuse_memory(void)
 {
     goodlock_session session;
@@ -332,12 +344,9 @@ static void refuse_memory(void)
     for (int way = 0; way < 4; way++)
         refuse_each(way % 2 == 1, way / 2 == 1);
     record_opposite(&session, lanes);
-    refuse_each_of_findings(&session, &MAKERS[0], false);
-    refuse_each_of_findings(&session, &MAKERS[0], true);
+    refuse_findings_at(&session, false);
     settle_two(&session, lanes);
-    for (unsigned i = 1; i < COUNT_OF_MAKERS; i++)
-        for (int way = 0; way < 2; way++)
-            refuse_each_of_findings(&session, &MAKERS[i], way == 1);
+    refuse_findings_at(&session, true);
     goodlock_session_free(&session);
 }
 
@@ -358,9 +367,6 @@ static void on_nothing(void)
     expect("place of no session", number(goodlock_place, &session, "a", &at), GOODLOCK_MISUSE);
     expect("pull of no session", goodlock_pull(&session, 1, &pulled), GOODLOCK_MISUSE);
     expect("pull of no session's lane", goodlock_pull_lane(&session, 0, 1, &pulled), GOODLOCK_MISUSE);
-    expect("report of no session", goodlock_report_so_far(&session, 2, 4, 10, &report), GOODLOCK_MISUSE);
-    expect("settled report of no session", goodlock_settled_report(&session, 2, 4, 10, &report), GOODLOCK_MISUSE);
-    expect("report by mention of no session", goodlock_report_by_mention(&session, 2, 4, 10, &report), GOODLOCK_MISUSE);
     for (unsigned i = 0; i < COUNT_OF_MAKERS; i++)
         expect(MAKERS[i].name, MAKERS[i].make(&session, 2, 4, 10, &report), GOODLOCK_MISUSE);
     expect("hand_in to no session", goodlock_hand_in(&session, &lane), GOODLOCK_MISUSE);
@@ -379,11 +385,8 @@ static void on_nothing(void)
 static void out_of_range(void)
 {
     static const uint32_t bad[][2] = {{0, 1}, {1025, 1}, {1, 0}, {1, 65537}, {UINT32_MAX, UINT32_MAX}, {0, 0}};
-    static const uint32_t asked[][3] = {{3, 4, 10}, {2, 1, 10},     {2, 17, 10},
-                                        {2, 4, 0},  {2, 4, 100001}, {UINT32_MAX, 2, 1}};
     goodlock_session session = {NULL};
     goodlock_lane lanes[2], third = {NULL};
-    goodlock_report report = {NULL};
     goodlock_pulled pulled;
     uint32_t at;
     for (unsigned i = 0; i < sizeof bad / sizeof *bad; i++) {
@@ -394,11 +397,6 @@ static void out_of_range(void)
     expect("open twice", goodlock_open(next_session(), 2, 4, &session), GOODLOCK_MISUSE);
     expect("a third lane", goodlock_lane_open(&session, &third, &at), GOODLOCK_NO_LANE);
     check(third.at == NULL, "a lane that isn't opened is all zero");
-    for (unsigned i = 0; i < sizeof asked / sizeof *asked; i++) {
-        expect("report", goodlock_report_so_far(&session, asked[i][0], asked[i][1], asked[i][2], &report),
-               GOODLOCK_RANGE);
-        check(report.at == NULL, "a report that isn't made is all zero");
-    }
     expect("pull of a third lane", goodlock_pull_lane(&session, 2, 1, &pulled), GOODLOCK_RANGE);
     expect("pull of nothing", goodlock_pull(&session, 0, &pulled), GOODLOCK_OK);
     check(pulled.events == 0 && pulled.ended == 0, "nothing is pulled");
@@ -471,9 +469,9 @@ static void settling(void)
     goodlock_session_free(&other);
 }
 
-/* Findings of a session, each call with numbers out of their range, over a report, and at a stage that isn't its own.
- */
-static void findings_at(goodlock_session *session, bool is_settled)
+/* Reports and findings of a session, each call with numbers out of their range, over a report, and at a stage that
+ * isn't its own. */
+static void made_at(goodlock_session *session, bool is_settled)
 {
     static const uint32_t asked[][3] = {{3, 4, 10}, {2, 1, 10},     {2, 17, 10},
                                         {2, 4, 0},  {2, 4, 100001}, {UINT32_MAX, 2, 1}};
@@ -483,34 +481,34 @@ static void findings_at(goodlock_session *session, bool is_settled)
         goodlock_report report = {NULL};
         for (unsigned k = 0; k < sizeof asked / sizeof *asked; k++) {
             expect(maker->name, maker->make(session, asked[k][0], asked[k][1], asked[k][2], &report), GOODLOCK_RANGE);
-            check(report.at == NULL, "findings that aren't made are all zero");
+            check(report.at == NULL, "what isn't made is all zero");
         }
         expect(maker->name, maker->make(session, 2, 4, 10, &report), is_right ? GOODLOCK_OK : GOODLOCK_MISUSE);
-        check((report.at != NULL) == is_right, "findings are made where they are asked for at their stage");
+        check((report.at != NULL) == is_right, "reports and findings are made where they are asked for at their stage");
         if (!is_right)
             continue;
-        check(is_text(session, &report, FINDING), "the text of findings");
+        check(is_text(session, &report, maker->text), "the text of a report or of findings");
         for (unsigned k = 0; k < COUNT_OF_MAKERS; k++)
-            expect("findings over findings", MAKERS[k].make(session, 2, 4, 10, &report), GOODLOCK_MISUSE);
-        check(is_text(session, &report, FINDING), "findings stay as they were");
+            expect("over a report", MAKERS[k].make(session, 2, 4, 10, &report), GOODLOCK_MISUSE);
+        check(is_text(session, &report, maker->text), "it stays as it was");
         goodlock_report_free(&report);
-        check(report.at == NULL, "findings that were freed are all zero");
+        check(report.at == NULL, "what was freed is all zero");
     }
 }
 
-static void findings(void)
+static void made(void)
 {
     goodlock_session session;
     goodlock_lane lanes[2];
     record_opposite(&session, lanes);
-    findings_at(&session, false);
+    made_at(&session, false);
     settle_two(&session, lanes);
-    findings_at(&session, true);
+    made_at(&session, true);
     goodlock_session_free(&session);
     for (unsigned i = 0; i < COUNT_OF_MAKERS; i++) {
         goodlock_report report = {NULL};
-        expect("findings of a freed session", MAKERS[i].make(&session, 2, 4, 10, &report), GOODLOCK_MISUSE);
-        check(report.at == NULL, "findings of a freed session are all zero");
+        expect("report of a freed session", MAKERS[i].make(&session, 2, 4, 10, &report), GOODLOCK_MISUSE);
+        check(report.at == NULL, "a report of a freed session is all zero");
     }
 }
 
@@ -630,33 +628,34 @@ static void nothing_written(void)
     goodlock_session_free(&session);
 }
 
-/* Forks and joins that order a thread before itself: no report any more, in no mode. */
+/* No report any more, in no mode. */
+static void inconsistent_at(goodlock_session *session, bool is_settled)
+{
+    goodlock_report report = {NULL};
+    for (uint32_t mode = 0; mode < 3; mode++)
+        for (unsigned i = 0; i < COUNT_OF_MAKERS; i++)
+            if (MAKERS[i].is_of_settled == is_settled)
+                expect(MAKERS[i].name, MAKERS[i].make(session, mode, 4, 10, &report), GOODLOCK_INCONSISTENT);
+    check(report.at == NULL, "there is no report");
+}
+
+/* Forks and joins that order a thread before itself. */
 static void inconsistent(void)
 {
     goodlock_session session;
     goodlock_lane lanes[2];
-    goodlock_report report = {NULL};
     uint32_t at;
     open_two(&session, lanes, 8);
     expect("join", goodlock_join(&lanes[0], 1, 0), GOODLOCK_OK);
     expect("fork", goodlock_fork(&lanes[0], 1, 0), GOODLOCK_OK);
     pull_all(&session);
-    for (uint32_t mode = 0; mode < 3; mode++) {
-        expect("so far", goodlock_report_so_far(&session, mode, 4, 10, &report), GOODLOCK_INCONSISTENT);
-        expect("findings so far", goodlock_findings_so_far(&session, mode, 4, 10, &report), GOODLOCK_INCONSISTENT);
-    }
+    inconsistent_at(&session, false);
     acquire_two(&lanes[1], 0, 1);
     for (int i = 0; i < 2; i++)
         end_lane(&session, &lanes[i]);
-    expect("so far, and later", goodlock_report_so_far(&session, 2, 4, 10, &report), GOODLOCK_INCONSISTENT);
+    inconsistent_at(&session, false);
     expect("settle", goodlock_settle(&session, &at), GOODLOCK_OK);
-    for (uint32_t mode = 0; mode < 3; mode++) {
-        expect("settled", goodlock_settled_report(&session, mode, 4, 10, &report), GOODLOCK_INCONSISTENT);
-        expect("by mention", goodlock_report_by_mention(&session, mode, 4, 10, &report), GOODLOCK_INCONSISTENT);
-        for (unsigned i = 1; i < COUNT_OF_MAKERS; i++)
-            expect(MAKERS[i].name, MAKERS[i].make(&session, mode, 4, 10, &report), GOODLOCK_INCONSISTENT);
-    }
-    check(report.at == NULL, "there is no report");
+    inconsistent_at(&session, true);
     goodlock_session_free(&session);
 }
 
@@ -680,17 +679,22 @@ static void reports_alone(void)
 {
     goodlock_session session;
     goodlock_lane lanes[2];
-    struct counted reports[4] = {{{NULL}, 0, 99}, {{NULL}, 0, 99}, {{NULL}, 0, 99}, {{NULL}, 0, 99}};
+    struct counted reports[COUNT_OF_MAKERS];
     uint8_t buffer[1000];
     size_t size;
+    unsigned count = 0;
     record_opposite(&session, lanes);
     settle_two(&session, lanes);
-    expect("settled", goodlock_settled_report(&session, 2, 4, 10, &reports[0].report), GOODLOCK_OK);
-    expect("by mention", goodlock_report_by_mention(&session, 2, 4, 10, &reports[1].report), GOODLOCK_OK);
-    expect("findings", goodlock_settled_findings(&session, 2, 4, 10, &reports[2].report), GOODLOCK_OK);
-    expect("findings by mention", goodlock_findings_by_mention(&session, 2, 4, 10, &reports[3].report), GOODLOCK_OK);
+    for (unsigned i = 0; i < COUNT_OF_MAKERS; i++) {
+        struct counted *const counted = &reports[count];
+        *counted = (struct counted){{NULL}, 0, 99};
+        if (MAKERS[i].is_of_settled) {
+            expect(MAKERS[i].name, MAKERS[i].make(&session, 2, 4, 10, &counted->report), GOODLOCK_OK);
+            count++;
+        }
+    }
     goodlock_session_free(&session);
-    for (int i = 0; i < 4; i++) {
+    for (unsigned i = 0; i < count; i++) {
         pthread_t thread;
         expect("text", goodlock_text(&session, &reports[i].report, buffer, sizeof buffer, &size), GOODLOCK_MISUSE);
         check(pthread_create(&thread, NULL, count_and_free, &reports[i]) == 0, "a thread is started");
@@ -1132,7 +1136,7 @@ int main(int count, char **words)
         on_nothing();
         out_of_range();
         settling();
-        findings();
+        made();
         places();
         orphans();
         unused_lanes();

@@ -5,7 +5,8 @@
 //     library_wrapper findings    reports of findings, so far and at the end
 //     library_wrapper memory      locks that get no number, and a thread that gets no lane, as memory is refused
 //     library_wrapper threads     many threads with small rings, of which some have no lane
-//     library_wrapper leave       main returns without finish(), while a thread records
+//     library_wrapper ends        what is locked at a thread's end, by destructors of thread_locals and of pthread's
+//     keys library_wrapper leave       main returns without finish(), while a thread records
 //
 // Memory is refused by the linker's --wrap of malloc, calloc, realloc and aligned_alloc. What isn't as it has to be is
 // told; the last line is how many checks passed and failed.
@@ -77,7 +78,7 @@ template <class M, class N> static void opposite(M &one, N &other)
             one.unlock();
         });
 }
-#line 80 "tests/library/wrapper.cc"
+#line 81 "tests/library/wrapper.cc"
 
 static void locks()
 {
@@ -116,7 +117,7 @@ static void locks()
             goodlock::guard<goodlock::shared_mutex> first(w);
             r.lock();
             r.unlock();
-#line 119 "tests/library/wrapper.cc"
+#line 120 "tests/library/wrapper.cc"
         });
     goodlock::recursive_mutex x, y;
     in_a_thread([&] { std::lock_guard<goodlock::recursive_mutex> first(x), again(x), second(y); });
@@ -211,15 +212,19 @@ static void findings()
     check(result.text.find("finding 1: 2 edges\n  T1 holds e since ") == 0, "another text:\n" + result.text);
 }
 
+static void take_both(goodlock::mutex &first, goodlock::mutex &second)
+{
+#line 2 "wrapper"
+    goodlock::guard<goodlock::mutex> outer(first);
+    goodlock::guard<goodlock::mutex> inner(second);
+}
+#line 221 "tests/library/wrapper.cc"
+
 // A thread without memory for its lane isn't recorded later either: that it began after main had taken the two locks in
 // the other order isn't known then.
 static void thread_without_a_lane()
 {
     goodlock::mutex one("e"), two("f");
-    const auto take_both = [](goodlock::mutex &first, goodlock::mutex &second) {
-        goodlock::guard<goodlock::mutex> outer(first);
-        goodlock::guard<goodlock::mutex> inner(second);
-    };
     take_both(one, two);
     requests = 0;
     refuse_at = 1;
@@ -284,6 +289,74 @@ static void threads()
     check(result.unrecorded == 11 * 200 * 4, std::to_string(result.unrecorded) + " events weren't recorded");
 }
 
+// Two locks that are taken at a thread's end.
+struct taken_at_end {
+    goodlock::mutex *first, *second;
+    ~taken_at_end()
+    {
+        if (first != nullptr)
+            take_both(*first, *second);
+    }
+};
+
+static thread_local taken_at_end thread_local_pair{nullptr, nullptr};
+static pthread_key_t early_key, late_key;
+
+static void key_ends(void *pair)
+{
+    delete static_cast<taken_at_end *>(pair);
+}
+
+// One thread after the other, of whose forks nothing is known.
+template <class F> static void in_a_plain_thread(F work)
+{
+    std::thread thread(work);
+    thread.join();
+}
+
+static void with_a_key(pthread_key_t key, goodlock::mutex &one, goodlock::mutex &other)
+{
+    in_a_plain_thread([&] { check(pthread_setspecific(key, new taken_at_end{&one, &other}) == 0, "a key's value"); });
+    in_a_plain_thread([&] { take_both(other, one); });
+}
+
+static const char *const AT_THE_END = "cycle 1: 2 edges\n"
+                                      "  T1 holds a since wrapper:2 wants b at wrapper:3\n"
+                                      "  T2 holds b since wrapper:2 wants a at wrapper:3\n"
+                                      "cycle 2: 2 edges\n"
+                                      "  T3 holds c since wrapper:2 wants d at wrapper:3\n"
+                                      "  T4 holds d since wrapper:2 wants c at wrapper:3\n"
+                                      "cycle 3: 2 edges\n"
+                                      "  T5 holds e since wrapper:2 wants f at wrapper:3\n"
+                                      "  T6 holds f since wrapper:2 wants e at wrapper:3\n"
+                                      "cycles: 3\n";
+
+// A thread_local that was built before the thread had a lane; keys that were made before the session and after it, in
+// threads that lock nothing else. What a key's destructor locks once the lane is closed isn't recorded, which is told.
+static void ends()
+{
+    check(pthread_key_create(&early_key, key_ends) == 0, "a key before the session");
+    check(goodlock::start(24, 64) == GOODLOCK_OK, "start");
+    check(pthread_key_create(&late_key, key_ends) == 0, "a key after it");
+    goodlock::mutex a("a"), b("b"), c("c"), d("d"), e("e"), f("f");
+    in_a_plain_thread([&] {
+        thread_local_pair.first = &a;
+        thread_local_pair.second = &b;
+        goodlock::guard<goodlock::mutex> hold(a);
+    });
+    in_a_plain_thread([&] { take_both(b, a); });
+    with_a_key(early_key, c, d);
+    with_a_key(late_key, e, f);
+    in_a_plain_thread([&] {
+        goodlock::guard<goodlock::mutex> hold(a);
+        check(pthread_setspecific(late_key, new taken_at_end{&f, &a}) == 0, "a key's value");
+    });
+    const goodlock::result result = goodlock::finish();
+    check(result.code == GOODLOCK_OK && result.is_settled, "the report is settled");
+    check(result.unrecorded == 4, std::to_string(result.unrecorded) + " events weren't recorded, and 4 are right");
+    check(result.text == AT_THE_END, "another text:\n" + result.text);
+}
+
 static void leave()
 {
     check(goodlock::start() == GOODLOCK_OK, "start");
@@ -309,6 +382,8 @@ int main(int count, char **words)
         memory();
     else if (word == "threads")
         threads();
+    else if (word == "ends")
+        ends();
     else if (word == "leave")
         leave();
     std::printf("%u passed, %u failed\n", passed, failed);

@@ -19,6 +19,7 @@ LAYOUT_VERSION = 1
 CHUNK_UNIT = 4096
 CHUNK_HEAD = 32
 CHUNK_EVENTS, CHUNK_TABLE = 0x676C6576, 0x676C7462
+FREE_PLACE, UNKNOWN_PLACE = 0, 1  # of read_chunks: nothing is stored from here on; something that is no chunk
 RECORD_PROCESS, RECORD_MODULE, RECORD_SITE, RECORD_LOCK, RECORD_THREAD = 1, 2, 3, 4, 5
 RECORD_START, RECORD_UNLOADED, RECORD_LOSSES, RECORD_END = 6, 7, 8, 11
 RECORD_PLACE, RECORD_LOCK_KIND, RECORD_LOCK_NAME, RECORD_ROUTINE, RECORD_NOTE, RECORD_NO_LOCK = 16, 17, 18, 19, 20, 21
@@ -41,8 +42,8 @@ KIND_AND_SITE = 0 if sys.byteorder == "little" else 1  # which half of a word ha
 HELD_LIMIT = 64
 
 
-# In the mangled name of a class: a lambda's own class.
-LAMBDA_CLASS = "EUl"
+# In the mangled name of a class: a lambda's own class, as GCC has it and as Clang may.
+LAMBDA_CLASS = re.compile(r"EUl|E\d+\$_")
 
 
 class ConvertError(Exception):
@@ -73,6 +74,7 @@ class Thread:
         "child",
         "routine",
         "unmade",
+        "chunk_count",
         "children",
         "left_out",
         "lost",
@@ -88,7 +90,7 @@ class Thread:
 
     def __init__(self, values, when):
         (self.number, self.parent, self.child, self.routine, self.unmade) = values[:5]
-        self.children = values[6]
+        self.chunk_count, self.children = values[5:7]
         (self.left_out, self.lost, self.others) = values[8:11]
         self.object = values[11:19] if any(values[11:19]) else ()
         self.when = when
@@ -242,24 +244,32 @@ def text_of(words):
 
 
 def read_chunks(path):
-    """(magic, thread, order, offset of the words, the words in use) of each chunk of an extent."""
+    """(magic, thread, order, offset of the words, the words in use) of each chunk of an extent; FREE_PLACE where its chunks end before the
+    file does; UNKNOWN_PLACE for what lies in between and is none, as it was damaged or the file was cut."""
     with open(path, "rb") as file:
         size = os.fstat(file.fileno()).st_size // 8 * 8
         if size == 0:
             return
         data = memoryview(mmap.mmap(file.fileno(), size, access=mmap.ACCESS_READ))
-    place = 0
+    place, is_known = 0, True
     while place + CHUNK_HEAD <= size:
         magic, thread, order, length, used = struct.unpack_from("=IIIIQ", data, place)
-        if magic not in (CHUNK_EVENTS, CHUNK_TABLE):
-            if magic == 0 and length == 0:
-                return  # chunks follow one another: nothing comes after the first free place
-            place += CHUNK_UNIT
+        offset, end = place + CHUNK_HEAD, place + max(length, CHUNK_UNIT)
+        used_end = min(offset + 8 * used, max(offset, place + length))
+        if magic in (CHUNK_EVENTS, CHUNK_TABLE) and used_end <= size:
+            yield magic, thread, order, offset, data[offset:used_end].cast("Q")
+            place, is_known = end, True
             continue
-        offset = place + CHUNK_HEAD
-        end = max(offset, min(place + length, size))
-        yield magic, thread, order, offset, data[offset : min(offset + 8 * used, end)].cast("Q")
-        place += max(length, CHUNK_UNIT)
+        if (
+            is_known and magic == 0 and not any(data[offset:end])
+        ):  # chunks follow one another: this is the next one's place
+            yield FREE_PLACE, 0, 0, offset, data[:0].cast("Q")
+            return
+        if struct.unpack_from("=I", data, place)[0] != magic:
+            continue  # it was just made
+        if is_known:
+            yield UNKNOWN_PLACE, 0, 0, offset, data[:0].cast("Q")
+        place, is_known = place + CHUNK_UNIT, False
 
 
 def read_events(recording):
@@ -573,7 +583,7 @@ class Names:
         if not any(thread.object):
             return self.symbol_of(thread.routine, thread.when)
         table = self.symbol_of(thread.object[0], thread.when)
-        if LAMBDA_CLASS not in table:
+        if not LAMBDA_CLASS.search(table):
             for word in thread.object[1:]:
                 name = self.symbol_of(word, thread.when, begins=True)
                 if name and not name.startswith("_ZT"):
@@ -685,7 +695,7 @@ def routine_name(symbol, readable):
     if name.startswith(prefix):
         inner = re.search(r"tuple<(.*)> *> *>$", name)
         name = inner.group(1) if inner else ""
-        match = re.match(r"([\w:]+)(\(.*?\))?( const)?::\{lambda.*\}", name)
+        match = re.match(r"([\w:]+)(\(.*?\))?( const)?::(\{lambda.*\}|\$_\d+)", name)
         return match.group(1) + "::lambda" if match else ""
     if name == symbol and symbol.startswith("_Z"):
         return symbol
@@ -951,14 +961,17 @@ def take_name(path, name):
 def convert_recording(recording, trace, first=None, with_functions=False):
     """Writes the trace of each process; their summaries, the first process's first, and what was damaged. `first`: its number,
     else the least. `with_functions`: places have the names of their functions."""
+    from damage import take_damaged
+
     processes, faults = read_processes(recording)
     if first is None and processes:
         first = min(processes)[0]
-    paths = trace_paths(processes, trace, first)
     sources = Sources(processes.values(), with_functions)
-    order = sorted(processes.values(), key=lambda process: (process.key[0] != first, process.key))
-    for process in order:
+    for process in processes.values():
         name_process(process, sources)
+    faults += take_damaged(recording, processes)
+    paths = trace_paths(processes, trace, first)
+    order = sorted(processes.values(), key=lambda process: (process.key[0] != first, process.key))
     summaries = [Summary(process, paths[process.key]) for process in order]
     write_traces(summaries)
     return summaries, faults

@@ -400,7 +400,10 @@ def convert_all(recording, settings, first, running, ends):
         say(line)
     lost = say_unrecorded(recording) or any(sum(summary.lost.values()) for summary in summaries)
     keep_or_remove(recording, running, faults)
-    why = "what the program did was lost" if lost else recorder.reason(bool(summaries))
+    if faults:
+        why = "what was recorded is damaged"
+    else:
+        why = "what the program did was lost" if lost else recorder.reason(bool(summaries))
     return any(summary.events for summary in summaries), why
 
 

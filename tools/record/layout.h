@@ -186,7 +186,7 @@ struct thread_record {
     uint64_t child;  /* which child of its parent it is, from 1 */
     uint64_t routine;
     uint64_t unmade;               /* 1: the call that should have made it failed */
-    uint64_t chunks;               /* how many chunks of events it has */
+    uint64_t chunks;               /* how many chunks of events it has, counted when they are there; some leave it 0 */
     uint64_t children;             /* how many threads it has made */
     uint64_t made;                 /* how many locks it has made */
     uint64_t left_out;             /* events of repeated stretches */

@@ -38,6 +38,7 @@ from convert import (
     take_name,
     windows,
 )
+from damage import take_damaged
 from family import FORWARDED, adopt_orphans
 from recording import maps_file
 
@@ -604,6 +605,7 @@ def report_recording(recording, path, first, running, ends, question, with_funct
     processes, faults = named_processes(recording, copied, {}, with_functions)
     if first is None and processes:
         first = min(processes)[0]
+    faults += take_damaged(recording, processes)
     paths = process_paths(processes, path, first)
     for taken in paths.values():
         if os.path.lexists(taken):

@@ -327,13 +327,31 @@ static void keys_grow(struct thread *thread)
     for (uint32_t i = 0; i < size; i++)
         if (old[i] > KEY_GONE)
             key_insert(thread, old[i]);
+    if (thread->renews) /* these were put down after a signal handler had emptied it */
+        memset(larger, 0, 2 * (size_t)size * sizeof *larger);
     keys_drop(thread, old, size - 1);
+}
+
+static void identities_renew(struct thread *thread, uint64_t *before);
+
+/* After a segment ended amid a change: what is held now was acquired in an earlier one. */
+static void segment_renew(struct thread *thread)
+{
+    thread->renews = 0;
+    __atomic_signal_fence(__ATOMIC_SEQ_CST);
+    thread->segments++;
+    identities_renew(thread, NULL);
+    keys_forget(thread);
 }
 
 int key_is_news_further(struct thread *thread, uint64_t key)
 {
     if (thread->changing || process.all)
         return 1;
+    if (unlikely(thread->renews) && !is_amid_change(thread)) {
+        segment_renew(thread);
+        return 1;
+    }
     for (uint32_t place = key >> 8 & thread->key_mask; thread->keys[place]; place = (place + 1) & thread->key_mask)
         if (thread->keys[place] == key)
             return 0;
@@ -353,21 +371,40 @@ int key_is_news_further(struct thread *thread, uint64_t key)
 /* --- Segments ------------------------------------------------------------------------------------------- */
 
 /* Locks that stay held were acquired in an earlier segment: they get other identities than the same locks
- * acquired from now on. */
+ * acquired from now on. `before`: those that they had; NULL: nobody asks. */
+static void identities_renew(struct thread *thread, uint64_t *before)
+{
+    for (uint32_t i = 0; i < thread->held_count; i++) {
+        if (before)
+            before[i] = thread->held[i].identity;
+        thread->held[i].identity = key_of(thread->held[i].identity, thread->segments);
+    }
+    contexts_renew(thread, thread->held);
+}
+
+static void segment_end_amid(struct thread *thread, struct segment *before)
+{
+    before->keys = NULL;
+    thread->renews = 1;
+    memset(thread->keys, 0, sizeof *thread->keys * (thread->key_mask + 1));
+    thread->key_count = 0;
+}
+
 void segment_end(struct thread *thread, struct segment *before)
 {
     before->news = thread->news++;
+    before->number = ++thread->segments;
+    if (is_amid_change(thread)) {
+        segment_end_amid(thread, before);
+        return;
+    }
+    thread->renews = 0;
     before->keys = thread->keys;
     before->key_mask = thread->key_mask;
     before->key_count = thread->key_count;
     before->held_count = thread->held_count;
-    thread->segments++;
-    for (uint32_t i = 0; i < thread->held_count; i++) {
-        before->identities[i] = thread->held[i].identity;
-        thread->held[i].identity = key_of(thread->held[i].identity, thread->segments);
-    }
-    contexts_renew(thread, thread->held);
-    if (thread->key_count == 0)
+    identities_renew(thread, before->identities);
+    if (thread->key_count == 0 && thread->keys == thread->first_keys)
         return;
     thread->changing = 1;
     __atomic_signal_fence(__ATOMIC_SEQ_CST);
@@ -381,18 +418,24 @@ void segment_end(struct thread *thread, struct segment *before)
 
 void segment_drop(struct thread *thread, const struct segment *before)
 {
-    keys_drop(thread, before->keys, before->key_mask);
+    if (before->keys)
+        keys_drop(thread, before->keys, before->key_mask);
 }
 
-/* In a slow part. What was news in between stays so: its words were kept. */
+/* In a slow part. What was news in between stays so: its words were kept. Where another segment ended meanwhile, all
+ * that was known is over. */
 void segment_go_on(struct thread *thread, const struct segment *before)
 {
+    if (!before->keys || thread->renews || thread->segments != before->number) {
+        segment_drop(thread, before);
+        return;
+    }
     for (uint32_t i = 0; i < before->held_count && i < thread->held_count; i++)
         thread->held[i].identity = before->identities[i];
     contexts_renew(thread, thread->held);
     if (thread->news == before->news + 1)
         thread->news = before->news;
-    if (before->key_count == 0 && thread->key_count == 0)
+    if (before->key_count == 0 && thread->key_count == 0 && before->keys == thread->keys)
         return;
     keys_drop(thread, thread->keys, thread->key_mask);
     if (before->key_count > 0)

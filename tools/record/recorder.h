@@ -186,6 +186,7 @@ struct thread {
     uint32_t changing; /* a table of this thread's is being changed: a signal handler leaves it alone */
     uint32_t held_count;
     uint32_t inside; /* how many changes of words and held locks are at work: more than one in a signal handler */
+    uint32_t renews; /* a segment ended amid a change, see segment_end */
     struct thread_record *record;
     uint32_t number;
     uint32_t exit_rounds;
@@ -417,15 +418,17 @@ static inline int key_is_news(struct thread *thread, uint64_t key)
 
 /* A segment that is over, unless the fork that ended it fails. */
 struct segment {
-    uint64_t news;
-    uint64_t *keys;
+    uint64_t news, number;
+    uint64_t *keys; /* NULL: it ended amid a change */
     uint32_t key_mask, key_count, held_count;
     uint64_t identities[HELD_LIMIT];
     uint64_t first_keys[KEYS_FIRST];
 };
 
 /* Within a change: a fork or join. What comes after is another segment. The one before is dropped then, or, in a slow
- * part, goes on. */
+ * part, goes on. A signal handler's, amid a change that may be looking into the keys or moving what is held, empties
+ * the keys where they are and leaves what is held alone: nothing is known until a change comes that is amid no other
+ * one, and renews it all. */
 void segment_end(struct thread *thread, struct segment *before);
 void segment_drop(struct thread *thread, const struct segment *before);
 void segment_go_on(struct thread *thread, const struct segment *before);

@@ -43,16 +43,22 @@ class Recording:
                 if stat.S_ISDIR(status.st_mode) and status.st_uid == int(match.group(1)):
                     yield path, {status.st_uid}
 
-    def extents(self):
-        """(pid, image, number, path) of each file that a recorded process wrote."""
-        found = []
+    def named_files(self):
+        """(pid, image, number, path) of each file that has a name as a recorded process gives it, and the users who may own it."""
         for place, owners in self.places():
             for name in os.listdir(place):
                 match = EXTENT_NAME.fullmatch(name)
-                path = os.path.join(place, name)
-                if match and is_extent(path, owners):
-                    found.append(tuple(map(int, match.groups())) + (path,))
-        return sorted(found)
+                if match:
+                    yield tuple(map(int, match.groups())) + (os.path.join(place, name),), owners
+
+    def extents(self):
+        """(pid, image, number, path) of each file that a recorded process wrote."""
+        return sorted(file for file, owners in self.named_files() if is_extent(file[3], owners))
+
+    def strangers(self):
+        """The same of files that have such a name and owner, and begin as none that a recorded process wrote."""
+        files = [file for file, owners in self.named_files() if holds_something(file[3], owners)] if self.mark() else []
+        return sorted(set(files).difference(self.extents()))
 
     def mark(self):
         """The mark's bytes; empty where there is none."""

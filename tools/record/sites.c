@@ -75,7 +75,25 @@ static const char *name_part(const char *at, const char **name, size_t *length)
 static int is_inner_namespace(const char *name, size_t length)
 {
     return (length == 3 && memcmp(name, "_V2", 3) == 0) || (length == 3 && memcmp(name, "__1", 3) == 0) ||
-           (length == 8 && memcmp(name, "__detail", 8) == 0);
+           (length == 8 && memcmp(name, "__detail", 8) == 0) || (length == 7 && memcmp(name, "__cxx11", 7) == 0);
+}
+
+/* Whether the arguments of a template begin with a lock holder or thread of the C++ library, or an allocator of such:
+ * then it makes one, as make_unique and emplace_back do, and none of the program's functions is a part of it. */
+static int is_of_holders(const char *arguments)
+{
+    static const char *const holders[] = {"10lock_guardI",  "11unique_lockI", "11shared_lockI",
+                                          "11scoped_lockI", "6thread",        "7jthread"};
+    if (*arguments++ != 'I')
+        return 0;
+    if (strncmp(arguments, "Sa", 2) == 0 && arguments[2] == 'I')
+        arguments += 3;
+    if (strncmp(arguments, "St", 2) != 0)
+        return 0;
+    for (size_t i = 0; i < sizeof holders / sizeof *holders; i++)
+        if (strncmp(arguments + 2, holders[i], strlen(holders[i])) == 0)
+            return 1;
+    return 0;
 }
 
 /* Of std::thread only what makes or joins threads is a wrapper: the rest runs the program's functions. */
@@ -99,9 +117,13 @@ static int is_wrapper_name(const char *symbol)
         at += 2;
     else
         return 0;
-    if (strncmp(at, "St", 2) != 0)
+    static const char extensions[] = "9__gnu_cxx";
+    if (strncmp(at, "St", 2) == 0)
+        at += at[2] == 'L' ? 3 : 2; /* L: not visible to other modules */
+    else if (strncmp(at, extensions, sizeof extensions - 1) == 0)
+        at += sizeof extensions - 1;
+    else
         return 0;
-    at += at[2] == 'L' ? 3 : 2; /* L: not visible to other modules */
     const char *name;
     size_t length;
     do {
@@ -112,7 +134,8 @@ static int is_wrapper_name(const char *symbol)
     if (length == 6 && memcmp(name, "thread", 6) == 0)
         return is_thread_wrapper(at);
     return contains(name, length, "mutex") || contains(name, length, "lock") || contains(name, length, "call_once") ||
-           contains(name, length, "condition_variable") || (length == 7 && memcmp(name, "jthread", 7) == 0);
+           contains(name, length, "condition_variable") || (length == 7 && memcmp(name, "jthread", 7) == 0) ||
+           is_of_holders(at);
 }
 
 /* --- Wrappers of a module --------------------------------------------------------------------------------- */

@@ -4,6 +4,8 @@ use Rattle.gl_event.specs.declared.events.Event.{Event}
 use Rattle.gl_event.specs.declared.events.Segment.{Segment}
 use Rattle.gl_segments.specs.Laws.{DecidesBefore}
 use Rattle.gl_segments.specs.Segments.{IsConsistent, IsLeastInRing}
+use Rattle.gl_segments.specs.declared.faults.OrderFault.{OrderFault}
+use Rattle.gl_segments.specs.declared.faults.OrderFault.TheVariants as order
 use Rattle.gl_edges.specs.Edges.{edges}
 use Rattle.gl_edges.specs.declared.edge.Edge.{Edge}
 use Rattle.gl_edges.specs.declared.edge.Sample.{Sample}
@@ -41,6 +43,11 @@ pub record IsReport (asked : Asked) (pairs : List (Edge × Sample)) (lists : Lis
 abbrev pub IsReportFault : List (List Event) → ReportFault → Type 0
 IsReportFault lists (Inconsistent at ring) = IsLeastInRing lists at ring.items
 IsReportFault lists Memory = Unit {0}
+
+-- why there is no report where there is no order: the same fault, of a report
+abbrev pub report_fault_of : OrderFault → ReportFault
+report_fault_of (order.Inconsistent at ring) = Inconsistent at ring
+report_fault_of order.Memory = Memory
 
 -- the Goodlock report of lists of events: that over their own edges
 abbrev pub IsGoodlockReport : Asked → List (List Event) → Report → Type 0

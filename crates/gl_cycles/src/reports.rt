@@ -5,11 +5,9 @@ ghost use Rattle.gl_event.specs.Lawful.{AreLawful, lists_of};
 ghost use Rattle.gl_event.specs.declared.events.Event.{Event};
 ghost use Rattle.gl_segments.specs.Clocks.{is_before};
 ghost use Rattle.gl_segments.specs.Orders.{IsFaultOf};
-ghost use Rattle.gl_segments.specs.declared.faults.OrderFault.TheVariants.{Memory as NoOrder};
 ghost use Rattle.gl_filters.specs.Picked.{edges_of_table};
 ghost use Rattle.gl_cycles.specs.Listed.{listed_cycles};
-ghost use Rattle.gl_cycles.specs.Reports.{IsGoodlockReport, IsReport, IsReportFault, report_by};
-ghost use Rattle.gl_cycles.specs.declared.found.ReportFault.TheVariants.{Memory};
+ghost use Rattle.gl_cycles.specs.Reports.{IsGoodlockReport, IsReport, IsReportFault, report_by, report_fault_of};
 ghost use Rattle.gl_trims.specs.Trims.{whole_trim};
 
 use crate::found::{Found, Report, ReportFault, TrimOrder};
@@ -24,9 +22,9 @@ use std::thread::Threads;
 
 /// Why there is no report where the segments have no order.
 pub fn no_report(fault: OrderFault) -> ReportFault
+    ensures same { result ≡ report_fault_of fault }
     ensures fault { (lists : List (List Event)) → IsFaultOf lists fault
         → IsReportFault lists result }
-    ensures memory { fault ≡ NoOrder → result ≡ Memory }
 {
     match fault {
         OrderFault::Inconsistent { at, ring } => ReportFault::Inconsistent { at, ring },

@@ -12,7 +12,8 @@
 //! In each round edges are left out for one reason after the other. Before the last round the efforts
 //! are bound, so what comes too dear is tried again. In the last one edges are left out with all the
 //! effort that each reason makes at most, and again as long as that leaves out many, and the search then goes on to its end, on
-//! several threads if there are any. Where there are, a round's steps are bound, as it goes on in one thread: what needs more
+//! several threads if there are any. But where a round found a good part of the cycles that are looked for, the next ones only have
+//! more steps: the search is on its way. Where there are, a round's steps are bound, as it goes on in one thread: what needs more
 //! is dealt out.
 ghost use Rattle.std.specs.Prelude.{◌≡◌, ◌<◌, ◌≤◌, ◌*◌, ◌-◌, ◌^◌, min, max, take, IfOk, OnOk};
 ghost use Rattle.gl_segments.specs.Clocks.{is_before};
@@ -30,8 +31,17 @@ use gl_pruning::{ALL_EFFORT, Sought, leave_out_in_turn_parallel};
 use std::alloc::Global;
 use std::thread::Threads;
 
-// The number of the last round, from 0.
+// The number of the last round, from 0, and that of one more for a search that is near its end.
 const LAST: usize = 1;
+
+const LAST_NEAR: usize = 2;
+
+// A search is near its end that has found one of so many of the cycles that it looks for, and so many at least: a round has about
+// so many times the steps of the one before.
+const NEAR: usize = 8;
+
+// How many steps the round has at most that only a search has which is near its end.
+const STEPS_NEAR: usize = 64_000_000;
 
 // How many steps a round has at most where there are several threads.
 const STEPS_ALONE: usize = 32_000_000;
@@ -70,6 +80,17 @@ fn steps_of(round: usize, edges: usize) -> usize {
     steps
 }
 
+// How many of these steps a round has where there may be no more than so many: the first one has all.
+fn steps_within(round: usize, steps: usize, most: usize) -> usize {
+    if round == 0 {
+        return steps;
+    }
+    if round > LAST {
+        return steps.min(most).min(STEPS_NEAR);
+    }
+    steps.min(most)
+}
+
 // How much effort a round makes for each reason, behind so many steps.
 fn effort_of(steps: usize) -> usize {
     steps / SHARE
@@ -98,8 +119,13 @@ fn search_on(
     search.go_on(alloc, effort, from, found)
 }
 
-// Searches in rounds, each of no more than so many steps but the first, and leaves edges out between them. One that
-// wouldn't have more steps than the one before is passed over. The root at which the search stands then.
+// Whether a search that has found so many cycles up to a cap is near its end: then it goes on as it is.
+fn is_near(found: usize, cap: usize) -> bool {
+    found >= NEAR && found >= cap / NEAR
+}
+
+// Searches in rounds, each of no more than so many steps but the first, and leaves edges out between them, where the search isn't
+// near its end. One that wouldn't have more steps than the one before is passed over. The root at which the search stands then.
 fn search_in_rounds(
     alloc: Global,
     sought: &Sought<'_>,
@@ -117,16 +143,26 @@ fn search_in_rounds(
         (λ to. HasFound sought.now cap to (cycles_in found.new.items)) }
 {
     let mut root = 0;
-    for round in 0..LAST {
+    for round in 0..=LAST_NEAR {
         let steps = steps_of(round, sought.table.len());
-        root = search_on(alloc, sought, cap, steps, kept, root, found)?;
-        if root >= sought.table.len() || most <= steps {
+        root = search_on(
+            alloc,
+            sought,
+            cap,
+            steps_within(round, steps, most),
+            kept,
+            root,
+            found,
+        )?;
+        let near = is_near(found.len(), cap);
+        if root >= sought.table.len() || most <= steps || (round == LAST && !near) {
             return Ok(root);
         }
-        sought.leave_out_in_turn(alloc, effort_of(steps), kept)?;
+        if round < LAST && !near {
+            sought.leave_out_in_turn(alloc, effort_of(steps), kept)?;
+        }
     }
-    let steps = steps_of(LAST, sought.table.len()).min(most);
-    search_on(alloc, sought, cap, steps, kept, root, found)
+    Ok(root)
 }
 
 // How many edges are kept.

@@ -75,21 +75,6 @@ impl Model for Recorder {
     ghost invariant = { λ r. IsRecorder r.limits r.taker.thread r.lane.pushed r.taker };
 }
 
-// Pushes the note into a lane that certainly has room for it.
-fn push_certainly(lane: &mut LaneIn, note: &Note)
-    requires placed { IsPlaced note.now }
-    requires known { 0 < lane.old.room }
-    ensures lane { lane.new.lane ≡ lane.old.lane }
-    ensures pushed { lane.new.pushed ≡ lane.old.pushed ++ note.now ∷ [] }
-    ensures room { lane.old.room ≤ lane.new.room + 1 }
-{
-    match lane.push(*note) {
-        Ok(()) => {}
-        // there is room for it
-        Err(_) => unreachable!(),
-    }
-}
-
 impl Recorder {
     // The recorder of the thread, which has taken nothing yet, with the recorder's end of its lane.
     pub(crate) fn new(session: u64, thread: ThreadId, limits: &Limits, lane: LaneIn) -> Recorder
@@ -228,8 +213,9 @@ impl Recorder {
     {
         match self.taker.take(*event) {
             Ok(note) => {
-                push_certainly(&mut self.lane, &note);
-                Ok(note.place)
+                let place = note.place;
+                self.lane.push_known(note);
+                Ok(place)
             }
             Err(refusal) => Err(RecordFault::Refused(refusal)),
         }

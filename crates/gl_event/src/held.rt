@@ -1,5 +1,5 @@
 //! The locks that one thread holds.
-ghost use Rattle.std.specs.Prelude.{◌≡◌, ◌<◌, ◌↔◌, ℕ, List, [], length, slice_set, IsTrue, IfNone, OnErr};
+ghost use Rattle.std.specs.Prelude.{◌≡◌, ◌<◌, ◌↔◌, ℕ, List, [], length, remove, slice_set, IsTrue, IfNone, OnErr};
 
 use crate::events::LockMode;
 use crate::ids::{LocId, LockId};
@@ -150,7 +150,7 @@ impl Held {
         match self.find(lock) {
             Some((i, entry)) => {
                 if entry.depth <= 1 {
-                    self.entries.remove(i);
+                    self.take_out(i);
                     return Ok(true);
                 }
                 let depth = entry.depth - 1;
@@ -198,6 +198,19 @@ impl Held {
             }
         }
         None
+    }
+
+    // Takes out the entry at a place. Behind the newest one, that most releases are of, no other moves up.
+    #[inline(always)]
+    fn take_out(&mut self, i: usize)
+        requires { i < length self.old }
+        ensures { self.new ≡ remove self.old i }
+    {
+        if self.entries.len() - i == 1 {
+            self.entries.pop();
+        } else {
+            self.entries.remove(i);
+        }
     }
 
     // Replaces the entry at a place.

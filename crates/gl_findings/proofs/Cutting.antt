@@ -3,7 +3,7 @@ use Rattle.std.proofs.Common.{◌≡◌, ℕ, zero, suc, ◌<◌, Bool, true, fa
 use Rattle.std.specs.Prelude.{slice_get, All, Contains, nat_eq}
 use Rattle.std.specs.List.{cons_option, filter_map, range_with_len}
 use Rattle.std.specs.Cmp.Lexicographic.{pointwise, same_text}
-use Rattle.std.proofs.lemmas.Bool.{false_from_ne_true}
+use Rattle.std.proofs.lemmas.Bool.{and_from, false_from_ne_true}
 use Rattle.std.proofs.lemmas.List.{length-map, map-append, take-append-drop}
 use Rattle.std.proofs.lemmas.List.Elements.{All-append, All-cons, All-head, All-tail}
 use Rattle.std.proofs.lemmas.List.Folds.{Any-from_list_any}
@@ -14,6 +14,7 @@ use Rattle.gl_edges.proofs.Membership.{contains_here, contains_later}
 use Rattle.gl_filters.specs.declared.query.Mode.{Mode}
 use Rattle.gl_filters.specs.Cycle.{IsCycle}
 use Rattle.gl_filters.specs.Picked.{edges_of_table, picked}
+use Rattle.gl_filters.specs.Test.{leads_back}
 use Rattle.gl_cycles.specs.AllCycles.{all_cycles}
 use Rattle.gl_cycles.specs.Laws.{IsCycleAt}
 use Rattle.gl_pruning.specs.OffCycles.{KeepsCycles}
@@ -21,12 +22,12 @@ use Rattle.gl_cycles.proofs.BelowFronts.{picked-append}
 use Rattle.gl_index.proofs.Lists.{element_at}
 use Rattle.gl_cycles.proofs.CyclesAreLevel.{picked_among}
 use Rattle.gl_cycles.proofs.AmongAllCycles.{there_is_cycle}
-use Rattle.gl_walks.specs.declared.purpose.Purpose.TheVariants.{Front}
+use Rattle.gl_walks.specs.declared.purpose.Purpose.TheVariants.{Front, Round}
 use Rattle.gl_walks.specs.Walks.{is_front, NoWalk}
 use Rattle.gl_findings.specs.Findings.{class_of, classes_of, signature_of, turned, is_turn, first_with}
 use Rattle.gl_findings.specs.bodies.Grounds.{AreModels}
-use Rattle.gl_findings.proofs.Modelled.{alike_front, models_of}
-use Rattle.gl_findings.proofs.Turning.{turned_front, front_of_front}
+use Rattle.gl_findings.proofs.Modelled.{alike_front, alike_round, models_of}
+use Rattle.gl_findings.proofs.Turning.{turned_front, turned_round, front_of_front}
 
 -- nothing is left where nothing passes
 pub filter-nothing : {X : Type 0} (p : X → Bool) (xs : List X) → ((x : X) → Contains xs x → p x ≡ false) → filter p xs ≡ []
@@ -82,19 +83,23 @@ picked_has edges (i ∷ is) (suc k) d e below at = behind (slice_get edges i) (p
     behind (Some f) there = contains_later f e (picked edges is) there
     behind None there = there
 
--- positions whose classes begin with a front, and that are a front of a round, have a walk among the models with the front's classes
-walk_begins : (before : Segment → Segment → Bool) (mode : Mode) (edges : List Edge) (classes : List ℕ) (kept models : List Bool) → AreModels edges classes kept models
-    → (positions front rest : List ℕ) → map (slice_get classes) positions ≡ map Some front ++ map Some rest → All (λ i. slice_get kept i ≡ Some true) positions
-    → is_front mode (picked edges positions) ≡ true → NoWalk Front before mode edges classes models front → ⊥
-walk_begins before mode edges classes kept models have positions front rest told all round none =
-    let parts = split (slice_get classes) positions (map Some front) (map Some rest) told in
-    let begun = front_of_front mode (picked edges parts.front) (picked edges parts.back) (ap (is_front mode) (sym (picked-append edges parts.front parts.back) ∙ ap (picked edges) parts.whole) ∙ round) in
-    let kept_front = All-left (λ i. slice_get kept i ≡ Some true) parts.front parts.back (subst (All (λ i. slice_get kept i ≡ Some true)) (sym parts.whole) all) in
-    let found = models_of edges classes kept models have parts.front kept_front in
-    none found.places (record {
-      flagged = found.flagged;
-      of_classes = found.same_classes ∙ parts.of_front;
-      fitting = alike_front mode (picked edges found.places) (picked edges parts.front) found.alike ∙ begun;
+-- models with the classes of a signature, each of which leads on to the next, and the last one to the first
+pub record IsModelRound (mode : Mode) (edges : List Edge) (classes : List ℕ) (models : List Bool) (signature : List ℕ) : Type 0 where
+  pub places : List ℕ
+  pub flagged : All (λ i. slice_get models i ≡ Some true) places
+  pub of_classes : map (slice_get classes) places ≡ map Some signature
+  pub in_front : is_front mode (picked edges places) ≡ true
+  pub round : leads_back (picked edges places) ≡ true
+
+-- they begin with a walk among the models with the classes of a front that the signature begins with
+walk_begins : (before : Segment → Segment → Bool) (mode : Mode) (edges : List Edge) (classes : List ℕ) (models : List Bool) (front rest : List ℕ) → IsModelRound mode edges classes models (front ++ rest)
+    → NoWalk Front before mode edges classes models front → ⊥
+walk_begins before mode edges classes models front rest is none =
+    let parts = split (slice_get classes) is.places (map Some front) (map Some rest) (is.of_classes ∙ map-append Some front rest) in
+    none parts.front (record {
+      flagged = All-left (λ i. slice_get models i ≡ Some true) parts.front parts.back (subst (All (λ i. slice_get models i ≡ Some true)) (sym parts.whole) is.flagged);
+      of_classes = parts.of_front;
+      fitting = front_of_front mode (picked edges parts.front) (picked edges parts.back) (ap (is_front mode) (sym (picked-append edges parts.front parts.back) ∙ ap (picked edges) parts.whole) ∙ is.in_front);
     })
 
 -- where positions have the classes of a turned signature, they have those of the signature itself when turned back
@@ -115,27 +120,55 @@ module _ (before : Segment → Segment → Bool) (mode : Mode) (len : ℕ) (tabl
       by false at e stands =
           absurd (keeps.left_out (get_or positions k d) e stands at (picked (edges_of_table table) positions) (picked_among (edges_of_table table) positions) is.cycle (picked_has (edges_of_table table) positions k d e below stands))
 
-  -- where no walk among the models has the classes of a front, no signature that begins with it has a cycle
+  -- a cycle of a signature has its models
+  pub model_round : KeepsCycles before mode len (edges_of_table table) kept → AreModels (edges_of_table table) (classes_of table) kept models
+      → (signature positions : List ℕ) → IsCycleAt before mode len (edges_of_table table) positions → is_turn signature (signature_of table positions) ≡ true → IsModelRound mode (edges_of_table table) (classes_of table) models signature
+  model_round keeps have signature positions is turn =
+      let edges = edges_of_table table in
+      let told_by = slice_get (classes_of table) in
+      let (j, k, j_in, k_is, passes) = Any-from_list_any (λ k. pointwise nat_eq (turned k signature) (signature_of table positions)) (range_with_len 0 (length signature)) turn in
+      let within : All (λ i. i < length (classes_of table)) positions = λ m d below. omega (arith, is.within m d below, length-map table (λ pair. pair.0), length-map table (class_of table)) in
+      let told : map told_by positions ≡ map Some (drop k signature) ++ map Some (take k signature) =
+      classes_told (classes_of table) positions within ∙ ap (map Some) (sym (same_text (turned k signature) (signature_of table positions) (sym passes))) ∙ map-append Some (drop k signature) (take k signature) in
+      let halves = split told_by positions (map Some (drop k signature)) (map Some (take k signature)) told in
+      let cycle : IsCycle before mode len (picked edges halves.front ++ picked edges halves.back) = subst (IsCycle before mode len) (ap (picked edges) (sym halves.whole) ∙ picked-append edges halves.front halves.back) is.cycle in
+      let P = λ (i : ℕ). slice_get kept i ≡ Some true in
+      let all : All P (halves.front ++ halves.back) = subst (All P) (sym halves.whole) (cycle_is_kept keeps positions is) in
+      let found = models_of edges (classes_of table) kept models have (halves.back ++ halves.front) (All-append P halves.back halves.front (All-right P halves.front halves.back all) (All-left P halves.front halves.back all)) in
+      let joined = picked-append edges halves.back halves.front in
+      record {
+        places = found.places;
+        flagged = found.flagged;
+        of_classes = found.same_classes ∙ turned_back told_by halves.front halves.back signature k halves.of_front halves.of_back;
+        in_front = alike_front mode (picked edges found.places) _ found.alike ∙ ap (is_front mode) joined ∙ turned_front before mode len (picked edges halves.front) (picked edges halves.back) cycle;
+        round = alike_round mode (picked edges found.places) _ found.alike ∙ ap leads_back joined ∙ turned_round before mode len (picked edges halves.front) (picked edges halves.back) cycle;
+      }
+
+  -- where no walk among the models has the classes of a front, no cycle has a signature that begins with it
+  pub none_turned : KeepsCycles before mode len (edges_of_table table) kept → AreModels (edges_of_table table) (classes_of table) kept models
+      → (front rest : List ℕ) → NoWalk Front before mode (edges_of_table table) (classes_of table) models front
+      → (positions : List ℕ) → IsCycleAt before mode len (edges_of_table table) positions → is_turn (front ++ rest) (signature_of table positions) ≡ true → ⊥
+  none_turned keeps have front rest none positions is turn =
+      walk_begins before mode (edges_of_table table) (classes_of table) models front rest (model_round keeps have (front ++ rest) positions is turn) none
+
+  -- where none goes round with the classes of a signature, no cycle has it
+  pub none_goes_round : KeepsCycles before mode len (edges_of_table table) kept → AreModels (edges_of_table table) (classes_of table) kept models
+      → (signature : List ℕ) → NoWalk Round before mode (edges_of_table table) (classes_of table) models signature → first_with before mode len table signature ≡ []
+  none_goes_round keeps have signature none =
+      ap (take 1) (filter-nothing _ (all_cycles before mode len (edges_of_table table))
+      (λ positions at. false_from_ne_true _ (λ turn.
+      let is = model_round keeps have signature positions (there_is_cycle before mode len (edges_of_table table) positions at) turn in
+      none is.places (record { flagged = is.flagged; of_classes = is.of_classes; fitting = and_from _ _ is.in_front is.round }))))
+
+  -- and so no signature that is turned to begin so
+  pub none_with_turned : KeepsCycles before mode len (edges_of_table table) kept → AreModels (edges_of_table table) (classes_of table) kept models
+      → (front rest : List ℕ) → NoWalk Front before mode (edges_of_table table) (classes_of table) models front
+      → (signature : List ℕ) → ((other : List ℕ) → is_turn signature other ≡ true → is_turn (front ++ rest) other ≡ true) → first_with before mode len table signature ≡ []
+  none_with_turned keeps have front rest none signature turns =
+      ap (take 1) (filter-nothing _ (all_cycles before mode len (edges_of_table table))
+      (λ positions at. false_from_ne_true _ (λ turn. none_turned keeps have front rest none positions (there_is_cycle before mode len (edges_of_table table) positions at) (turns (signature_of table positions) turn))))
+
+  -- none that begins with it has a cycle
   pub none_with : KeepsCycles before mode len (edges_of_table table) kept → AreModels (edges_of_table table) (classes_of table) kept models
       → (front rest : List ℕ) → NoWalk Front before mode (edges_of_table table) (classes_of table) models front → first_with before mode len table (front ++ rest) ≡ []
-  none_with keeps have front rest none =
-      ap (take 1) (filter-nothing _ (all_cycles before mode len (edges_of_table table))
-      (λ positions at. false_from_ne_true _ (no_turn positions (there_is_cycle before mode len (edges_of_table table) positions at))))
-    where
-      no_turn : (positions : List ℕ) → IsCycleAt before mode len (edges_of_table table) positions → is_turn (front ++ rest) (signature_of table positions) ≡ true → ⊥
-      no_turn positions is turn =
-          let edges = edges_of_table table in
-          let told_by = slice_get (classes_of table) in
-          let (j, k, j_in, k_is, passes) = Any-from_list_any (λ k. pointwise nat_eq (turned k (front ++ rest)) (signature_of table positions)) (range_with_len 0 (length (front ++ rest))) turn in
-          let within : All (λ i. i < length (classes_of table)) positions = λ m d below. omega (arith, is.within m d below, length-map table (λ pair. pair.0), length-map table (class_of table)) in
-          let told : map told_by positions ≡ map Some (drop k (front ++ rest)) ++ map Some (take k (front ++ rest)) =
-          classes_told (classes_of table) positions within ∙ ap (map Some) (sym (same_text (turned k (front ++ rest)) (signature_of table positions) (sym passes))) ∙ map-append Some (drop k (front ++ rest)) (take k (front ++ rest)) in
-          let halves = split told_by positions (map Some (drop k (front ++ rest))) (map Some (take k (front ++ rest))) told in
-          let cycle : IsCycle before mode len (picked edges halves.front ++ picked edges halves.back) = subst (IsCycle before mode len) (ap (picked edges) (sym halves.whole) ∙ picked-append edges halves.front halves.back) is.cycle in
-          let P = λ (i : ℕ). slice_get kept i ≡ Some true in
-          let all : All P (halves.front ++ halves.back) = subst (All P) (sym halves.whole) (cycle_is_kept keeps positions is) in
-          walk_begins before mode edges (classes_of table) kept models have (halves.back ++ halves.front) front rest
-          (turned_back told_by halves.front halves.back (front ++ rest) k halves.of_front halves.of_back ∙ map-append Some front rest)
-          (All-append P halves.back halves.front (All-right P halves.front halves.back all) (All-left P halves.front halves.back all))
-          (ap (is_front mode) (picked-append edges halves.back halves.front) ∙ turned_front before mode len (picked edges halves.front) (picked edges halves.back) cycle)
-          none
+  none_with keeps have front rest none = none_with_turned keeps have front rest none (front ++ rest) (λ other turn. turn)

@@ -141,6 +141,15 @@ turn_of_turn xs k j k_short j_short =
           (m, omega (arith, long, short), sym (ap (λ n. turned n (turned k xs)) (sym sum) ∙ is ∙ ap (turned m) (take-append-drop k xs)))
     ]
 
+-- a turn of a list is one of the list that begins with its last member
+pub turn_of_last : (xs : List ℕ) (x : ℕ) (other : List ℕ) → is_turn (xs ++ x ∷ []) other ≡ true → is_turn (x ∷ xs) other ≡ true
+turn_of_last xs x other passes =
+    let (k, below, is) = turn_tells (xs ++ x ∷ []) other passes in
+    let long = length-append xs (x ∷ []) in
+    let (j, short, same) = turn_of_turn (x ∷ xs) 1 k (omega arith) (omega (arith, below, long)) in
+    let (m, less, turned) = less_round (x ∷ xs) other j (omega arith) short (same ∙ is) in
+    turn_from (x ∷ xs) other m less turned
+
 -- and turned back
 turn_back : (xs : List ℕ) (k : ℕ) → k ≤ length xs → turned (length (drop k xs)) (turned k xs) ≡ xs
 turn_back xs k short =

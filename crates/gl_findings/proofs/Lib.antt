@@ -1,4 +1,5 @@
 pub mod Below
+pub mod ByPassages
 pub mod Choosing
 pub mod ClassNumbers
 pub mod Compared
@@ -10,6 +11,7 @@ pub mod ListingsAgree
 pub mod ModelSteps
 pub mod Modelled
 pub mod NextFlagged
+pub mod PassageSteps
 pub mod Passed
 pub mod Prepared
 pub mod RunTwice

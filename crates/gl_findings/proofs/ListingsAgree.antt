@@ -1,5 +1,5 @@
 -- What a report of lists lists, what was asked and the lists decide the report.
-use Rattle.std.proofs.Common.{◌≡◌, sym, ◌∙◌}
+use Rattle.std.proofs.Common.{sym, ◌∙◌}
 use Rattle.gl_edges.specs.Edges.{edges}
 use Rattle.gl_segments.proofs.LawLemmas.{agree}
 use Rattle.gl_cycles.proofs.ReportsAreUnique.{reports_agree}

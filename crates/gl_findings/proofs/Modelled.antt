@@ -8,7 +8,7 @@ use Rattle.gl_edges.specs.declared.edge.Edge.{Edge}
 use Rattle.gl_filters.specs.declared.query.Mode.{Mode}
 use Rattle.gl_filters.specs.Cycle.{asks_guards}
 use Rattle.gl_filters.specs.Picked.{picked}
-use Rattle.gl_filters.specs.Test.{waits_for, leads_to, lead_on, kinds_go_together}
+use Rattle.gl_filters.specs.Test.{waits_for, leads_to, lead_on, leads_back, last_of, kinds_go_together}
 use Rattle.gl_pruning.specs.Kinds.{AreOfOneKind}
 use Rattle.gl_findings.specs.bodies.Grounds.{AreModels}
 use Rattle.gl_walks.specs.Walks.{kinds_together, is_front}
@@ -53,6 +53,19 @@ module _ (mode : Mode) where
   pub alike_front : (es fs : List Edge) → AllAlike es fs → is_front mode es ≡ is_front mode fs
   unfolding is_front
   alike_front es fs all = λ i. alike_led es fs all i && alike_together es fs all i
+
+  alike_last : (e f : Edge) (es fs : List Edge) → AreOfOneKind e f → AllAlike es fs → AreOfOneKind (last_of e es) (last_of f fs)
+  alike_last e f [] [] one all = one
+  alike_last e f [] (g ∷ fs) one all = absurd all
+  alike_last e f (d ∷ es) [] one all = absurd all
+  alike_last e f (d ∷ es) (g ∷ fs) one all = alike_last d g es fs all.0 all.1
+
+  -- and lead round or not
+  pub alike_round : (es fs : List Edge) → AllAlike es fs → leads_back es ≡ leads_back fs
+  alike_round [] [] all = refl
+  alike_round [] (f ∷ fs) all = absurd all
+  alike_round (e ∷ es) [] all = absurd all
+  alike_round (e ∷ es) (f ∷ fs) all = alike_leads (last_of e es) (last_of f fs) e f (alike_last e f es fs all.0 all.1) all.0
 
 -- flagged edges, one for each of these, alike and of the same class
 pub record HasModels (edges : List Edge) (classes : List ℕ) (models : List Bool) (positions : List ℕ) : Type 0 where

@@ -2,16 +2,23 @@
 use Rattle.std.proofs.Common.{◌≡◌, ℕ, suc, ◌+◌, ◌-◌, ◌<◌, ◌≤◌, Bool, true, false, cond, List, [], ◌∷◌, ◌++◌, length, take, get_or, Option, Some, None, refl, sym, ap, subst, ◌∙◌, arith, inl, inr}
 use Rattle.std.specs.Prelude.{slice_get, is_some, MatchOption}
 use Rattle.std.proofs.lemmas.Bool.{cases_lt, false≢true}
-use Rattle.std.proofs.lemmas.List.{append-nil}
+use Rattle.std.proofs.lemmas.List.{append-nil, append_assoc, length-map, take_all}
 use Rattle.std.proofs.lemmas.Option.{slice_get-get_or}
 use Rattle.gl_segments.specs.Clocks.{is_before}
 use Rattle.gl_filters.specs.Picked.{edges_of_table}
+use Rattle.gl_edges.specs.declared.edge.Edge.{Edge}
+use Rattle.gl_edges.specs.declared.edge.Sample.{Sample}
+use Rattle.gl_walks.specs.declared.purpose.Purpose.TheVariants.{Front}
 use Rattle.gl_walks.specs.Walks.{NoWalk}
-use Rattle.gl_findings.specs.Findings.{begins_least, first_with}
+use Rattle.gl_findings.specs.Findings.{begins_least, class_of, classes_of, first_with, is_turn}
 use Rattle.gl_findings.specs.bodies.Finding.{IsReady, block_of, below_of, finding_of}
 use Rattle.gl_findings.specs.declared.finder.Finder.{Finder}
-use Rattle.gl_findings.proofs.Below.{HasGrown, grow_begin, grow_step, grow_alone, grow_whole, block-lower}
+use Rattle.gl_findings.proofs.Below.{HasGrown, grow_begin, grow_step, grow_alone, grow_whole, block-lower, block-zero}
+use Rattle.gl_findings.proofs.ByPassages.{last_one, no_walk_by}
 use Rattle.gl_findings.proofs.Choosing.{none_of_one}
+use Rattle.gl_findings.proofs.Cutting.{none_goes_round, none_with_turned}
+use Rattle.gl_findings.proofs.LeastTurns.{turn_of_last}
+use Rattle.gl_findings.specs.bodies.Passing.{may_pass}
 use Rattle.gl_findings.specs.bodies.Running.{IsRunTwice}
 use Rattle.gl_findings.proofs.Passed.{none_begins, none_through}
 use Rattle.gl_findings.proofs.RunTwice.{none_by_one}
@@ -20,6 +27,15 @@ use Rattle.gl_findings.proofs.RunTwice.{none_by_one}
 pub where_none : {V : Type 0} (o : Option V) (N : Type 0) (P : V → Type 0) → MatchOption o N P → is_some o ≡ false → N
 where_none None N P is none = is
 where_none (Some v) N P is none = absurd (false≢true (sym none))
+
+-- each edge has its class
+as_long : (table : List (Edge × Sample)) → length (classes_of table) ≡ length (edges_of_table table)
+as_long table = length-map table (class_of table) ∙ sym (length-map table (λ pair. pair.0))
+
+-- what is nothing is so wherever a signature begins
+where_least : {X : Type 0} {l : List X} (b : Bool) → l ≡ [] → cond b l [] ≡ []
+where_least true none = none
+where_least false none = refl
 
 module _ (s : Finder) (ready : IsReady s) where
   -- a front that models show no walk for begins no finding
@@ -32,6 +48,50 @@ module _ (s : Finder) (ready : IsReady s) where
   -- nor does one of which one thread alone runs two classes
   pub none_run_twice : (n : ℕ) (front : List ℕ) → IsRunTwice s.runners.now front → block_of s n front ≡ []
   none_run_twice n front twice = none_by_one (is_before s.order.now) s.mode s.len s.table.now s.cycles.ground.flags.now s.runners.now ready.kept ready.run n front twice
+
+  -- nor does one that goes on with a class to which its last one doesn't lead on
+  pub none_passed : (n : ℕ) (front : List ℕ) (class : ℕ) → 0 < length front → may_pass s.passages.now (get_or front (length front - 1) 0) class ≡ false → block_of s n (front ++ class ∷ []) ≡ []
+  none_passed n [] class some not = absurd (omega (arith, some))
+  none_passed n (x ∷ l) class some not =
+      let at_last : length l ≡ length (x ∷ l) - 1 = omega arith in
+      let last = get_or (x ∷ l) (length l) 0 in
+      let whole : x ∷ l ++ class ∷ [] ≡ take (length l) (x ∷ l) ++ last ∷ class ∷ [] = ap (λ k. k ++ class ∷ []) (last_one x l) ∙ append_assoc (take (length l) (x ∷ l)) (last ∷ []) (class ∷ []) in
+      none_begins (is_before s.order.now) s.mode s.len s.table.now s.cycles.ground.flags.now s.fronts.ground.flags.now ready.kept ready.models n (x ∷ l ++ class ∷ [])
+      (subst (NoWalk Front (is_before s.order.now) s.mode (edges_of_table s.table.now) (classes_of s.table.now) s.fronts.ground.flags.now) (sym whole)
+      (no_walk_by (edges_of_table s.table.now) (classes_of s.table.now) s.fronts.ground.flags.now s.passages.now (as_long s.table.now) ready.pass (is_before s.order.now) s.mode
+      (take (length l) (x ∷ l)) last class
+      ((λ i. may_pass s.passages.now (get_or (x ∷ l) (at_last i) 0) class) ∙ not)))
+
+  -- and no cycle has a signature whose last class doesn't lead back to its first
+  pub none_round : (signature : List ℕ) → 2 ≤ length signature → may_pass s.passages.now (get_or signature (length signature - 1) 0) (get_or signature 0 0) ≡ false → finding_of s signature ≡ []
+  none_round [] two not = absurd (omega (arith, two))
+  none_round (x ∷ []) two not = absurd (omega (arith, two))
+  none_round (x ∷ y ∷ l) two not =
+      let at_last : suc (length l) ≡ length (x ∷ y ∷ l) - 1 = omega arith in
+      let last = get_or (x ∷ y ∷ l) (suc (length l)) 0 in
+      let rest = take (length l) (y ∷ l) in
+      let none = no_walk_by (edges_of_table s.table.now) (classes_of s.table.now) s.fronts.ground.flags.now s.passages.now (as_long s.table.now) ready.pass (is_before s.order.now) s.mode [] last x ((λ i. may_pass s.passages.now (get_or (x ∷ y ∷ l) (at_last i) 0) x) ∙ not) in
+      where_least (begins_least (x ∷ y ∷ l))
+      (none_with_turned (is_before s.order.now) s.mode s.len s.table.now s.cycles.ground.flags.now s.fronts.ground.flags.now ready.kept ready.models (last ∷ x ∷ []) rest none (x ∷ y ∷ l)
+      (λ other turn. turn_of_last (x ∷ rest) last other (subst (λ l. is_turn l other ≡ true) (last_one x (y ∷ l)) turn)))
+
+  -- nor one with whose classes no models go round
+  pub none_around : (signature : List ℕ) → NoWalk s.rounds.purpose (is_before s.rounds.ground.order.now) s.rounds.ground.mode (edges_of_table s.rounds.ground.table.now) s.rounds.ground.classes.now s.rounds.ground.flags.now signature → finding_of s signature ≡ []
+  none_around signature none =
+      let r = ready.rounds in
+      where_least (begins_least signature)
+      (none_goes_round (is_before s.order.now) s.mode s.len s.table.now s.cycles.ground.flags.now s.fronts.ground.flags.now ready.kept ready.models signature
+      (rw (r.same_purpose, r.same_order, r.same_mode, r.same_table, r.same_classes, ready.same_models) at none))
+
+  -- nor does anything go on from one that may be no longer
+  pub none_open : (signature : List ℕ) (class : ℕ) → length signature + 1 ≡ s.len → finding_of s (signature ++ class ∷ []) ≡ [] → block_of s (s.len - length signature - 1) (signature ++ class ∷ []) ≡ []
+  none_open signature class full none =
+      let left : 0 ≡ s.len - length signature - 1 = omega (arith, full) in
+      subst (λ n. block_of s n (signature ++ class ∷ []) ≡ []) left (block-zero (is_before s.order.now) s.mode s.len s.table.now (signature ++ class ∷ []) ∙ none)
+
+  -- what has room stays as it is where there is nothing more
+  pub nothing_more : (old more : List (List ℕ)) → length old ≤ s.cap → more ≡ [] → old ≡ take s.cap (old ++ more)
+  nothing_more old more room none = sym (ap (λ l. take s.cap (old ++ l)) none ∙ ap (take s.cap) (append-nil old) ∙ take_all s.cap old room)
 
   -- classes that are passed over
   pub skipped : (n : ℕ) (front : List ℕ) (m next i : ℕ) → slice_get s.next.now m ≡ Some next → m ≤ i → i < next → block_of s n (front ++ i ∷ []) ≡ []

@@ -11,7 +11,7 @@ use Rattle.gl_event.specs.declared.events.Segment.{Segment}
 use Rattle.gl_edges.specs.declared.edge.Edge.{Edge}
 use Rattle.gl_filters.specs.declared.query.Mode.{Mode}
 use Rattle.gl_filters.specs.Cycle.{IsCycle}
-use Rattle.gl_filters.specs.Test.{leads_to, lead_on, kinds_go_together}
+use Rattle.gl_filters.specs.Test.{leads_to, lead_on, kinds_go_together, last_of, leads_back}
 use Rattle.gl_filters.specs.Verdicts.{following}
 use Rattle.gl_filters.proofs.Cycling.{leads_from}
 use Rattle.gl_filters.proofs.Round.{pair_goes_by_kind, leads_round}
@@ -108,6 +108,46 @@ turned_front before mode len xs ys cycle =
     let a = home xs ys i e at_e in
     let b = home xs ys j f at_f in
     pair_goes_by_kind before mode len (xs ++ ys) cycle a.place b.place e f (homes_differ xs ys i j e f lower a b) a.stands b.stands))
+
+-- and the first place is behind the last one
+first_place : (m n k l : ℕ) → 0 < m + n → ((m + n - 1 < n) × (k ≡ m + (m + n - 1))) ⊎ ((n + k ≡ m + n - 1) × (k < m)) → ((0 < n) × (l ≡ m + 0)) ⊎ ((n + l ≡ 0) × (l < m)) → l ≡ cond (eqb (k + 1) (m + n)) 0 (k + 1)
+first_place m n k l some p q =
+    elim p [
+      | inl a ↦ elim q [
+        | inl b ↦ pick _ (λ last. omega (arith, a.0, b.1)) (λ more. absurd (false≢true (sym more ∙ eq-eqb (k + 1) (m + n) (omega (arith, a.0, a.1, some)))))
+        | inr b ↦ absurd (omega (arith, a.0, b.0))
+      ]
+      | inr a ↦ elim q [
+        | inl b ↦ pick _ (λ last. absurd (omega (arith, eqb-true (k + 1) (m + n) last, a.0, a.1, b.0))) (λ more. omega (arith, a.0, a.1, b.1, some))
+        | inr b ↦ pick _ (λ last. omega (arith, b.0)) (λ more. absurd (false≢true (sym more ∙ eq-eqb (k + 1) (m + n) (omega (arith, a.0, a.1, b.0, some)))))
+      ]
+    ]
+  where
+    pick : (t : Bool) → (t ≡ true → l ≡ 0) → (t ≡ false → l ≡ k + 1) → l ≡ cond t 0 (k + 1)
+    pick true last more = last refl
+    pick false last more = more refl
+
+last_at : (e : Edge) (es : List Edge) → slice_get (e ∷ es) (length es) ≡ Some (last_of e es)
+last_at e [] = refl
+last_at e (f ∷ es) = last_at f es
+
+back_from : (es : List Edge) (n : ℕ) → n + 1 ≡ length es → ((e f : Edge) → slice_get es n ≡ Some e → slice_get es 0 ≡ Some f → leads_to e f ≡ true) → leads_back es ≡ true
+back_from [] n long leads = absurd (omega (arith, long))
+back_from (d ∷ ds) n long leads =
+    let last : n ≡ length ds = omega (arith, long) in
+    leads (last_of d ds) d (ap (slice_get (d ∷ ds)) last ∙ last_at d ds) refl
+
+-- its last edge leads back to its first
+pub turned_round : (before : Segment → Segment → Bool) (mode : Mode) (len : ℕ) (xs ys : List Edge) → IsCycle before mode len (xs ++ ys) → leads_back (ys ++ xs) ≡ true
+turned_round before mode len xs ys cycle =
+    let some : 0 < length xs + length ys = omega (arith, cycle.two_or_more, length-append xs ys) in
+    back_from (ys ++ xs) (length xs + length ys - 1) (omega (arith, some, length-append ys xs))
+    (λ e f here there.
+    let a = home xs ys (length xs + length ys - 1) e here in
+    let b = home xs ys 0 f there in
+    let next : b.place ≡ following (length (xs ++ ys)) a.place =
+    first_place (length xs) (length ys) a.place b.place some a.counts b.counts ∙ ap (λ n. cond (eqb (a.place + 1) n) 0 (a.place + 1)) (sym (length-append xs ys)) in
+    leads_from e f (leads_round before mode len (xs ++ ys) cycle a.place e f a.stands (ap (slice_get (xs ++ ys)) (sym next) ∙ b.stands)))
 
 led_front : (es fs : List Edge) → lead_on (es ++ fs) ≡ true → lead_on es ≡ true
 led_front [] fs led = refl

@@ -8,12 +8,13 @@ ghost use Rattle.gl_findings.specs.bodies.Finding.{AreAdded, IsReady, IsUnbound,
 ghost use Rattle.gl_findings.specs.bodies.Told.{AreGrounds};
 
 use crate::grounds::Grounds;
+use crate::passages::Passages;
 use crate::runners::{Runner, is_run_twice};
 use crate::shown::first_with;
 use crate::turns::{begins_least, longer};
 use gl_edges::{Edge, EdgeList, Sample};
 use gl_event::Memory;
-use gl_filters::{Mode, Query, Stop};
+use gl_filters::{Mode, Query, Stop, spend_step};
 use gl_segments::Order;
 use gl_walks::{Ground, Purpose, Walker};
 use std::alloc::{AllocError, Global};
@@ -27,10 +28,16 @@ pub(crate) struct Finder<'a> {
     pub(crate) cycles: Walker<'a>,
     // shows whether a signature may begin so, among models
     pub(crate) fronts: Walker<'a>,
+    // and whether it may be one of a round of them
+    pub(crate) rounds: Walker<'a>,
     // for each class the next one that has a model
     pub(crate) next: &'a [usize],
     // and which thread runs it, where one alone does
     pub(crate) runners: &'a [Runner],
+    // which classes lead on to which
+    pub(crate) passages: &'a Passages,
+    // whether it ends where its steps are taken
+    pub(crate) is_bound: bool,
     // how many edges a cycle may have
     pub(crate) len: usize,
     // how many findings are looked for: one more than are listed
@@ -46,8 +53,11 @@ impl Drop for Finder<'_> {
             mode,
             cycles,
             fronts,
+            rounds,
             next,
             runners,
+            passages,
+            is_bound,
             len,
             cap,
         } = self;
@@ -93,14 +103,18 @@ impl<'a> Finder<'a> {
         };
         let cycles = Walker::of(alloc, among_kept, Purpose::Cycle, is_bound)?;
         let fronts = Walker::of(alloc, among_models, Purpose::Front, is_bound)?;
+        let rounds = Walker::of(alloc, among_models, Purpose::Round, is_bound)?;
         Ok(Finder {
             table,
             order,
             mode,
             cycles,
             fronts,
+            rounds,
             next: grounds.next.as_slice(),
             runners: grounds.runners.as_slice(),
+            passages: &grounds.passages,
+            is_bound,
             len: query.len() as usize,
             cap: query.max() as usize + 1,
         })
@@ -237,7 +251,7 @@ impl Finder<'_> {
         Ok(())
     }
 
-    // Adds the findings whose signature goes on from this one with a class, up to the cap.
+    // Adds the findings whose signature goes on from this one with a class, up to the cap. It takes a step at least.
     #[cycle(grow)]
     fn grow_by(
         &self,
@@ -259,11 +273,42 @@ impl Finder<'_> {
             (cycles_in found.old.items) (cycles_in found.new.items)) }
         ensures stopped { IfErr result (λ stop. IsUnbound self.now → stop ≡ Memory) }
     {
+        spend_step(self.is_bound, steps)?;
+        if !self.may_go_on(signature, class) {
+            return Ok(());
+        }
         let longer = longer(signature, class);
+        if longer.len() == self.len && !self.may_close(longer.as_slice()) {
+            return Ok(());
+        }
         if !self.may_begin(alloc, longer.as_slice(), steps)? {
             return Ok(());
         }
         self.grow(alloc, longer.as_slice(), steps, found)
+    }
+
+    // Whether a cycle may have this signature, as far as its last class and its first one tell.
+    fn may_close(&self, signature: &[usize]) -> bool
+        requires ready { IsReady self.now }
+        ensures { result ≡ false → finding_of self.now signature.now ≡ [] }
+    {
+        if signature.len() < 2 {
+            return true;
+        }
+        let last = signature[signature.len() - 1];
+        self.passages.may_pass(last, signature[0])
+    }
+
+    // Whether a signature of a cycle may go on with a class, as far as its last one tells.
+    fn may_go_on(&self, front: &[usize], class: usize) -> bool
+        requires ready { IsReady self.now }
+        ensures { result ≡ false
+            → (n : ℕ) → block_of self.now n (front.now ++ class ∷ []) ≡ [] }
+    {
+        if front.is_empty() {
+            return true;
+        }
+        self.passages.may_pass(front[front.len() - 1], class)
     }
 
     // Whether a signature of a cycle may begin so: no thread would have to run two classes alone, and models show
@@ -284,7 +329,26 @@ impl Finder<'_> {
         Ok(walk.is_some())
     }
 
-    // Adds the finding of a signature, where it has one. No cycle has fewer than two edges.
+    // Whether a cycle may have this signature: models show a round.
+    fn goes_round(
+        &self,
+        alloc: Global,
+        signature: &[usize],
+        steps: &mut usize,
+    ) -> Result<bool, Stop>
+        requires some { 0 < length signature.now }
+        requires short { length signature.now ≤ self.now.len }
+        requires ready { IsReady self.now }
+        ensures none { IfOk result
+            (λ goes. goes ≡ false → finding_of self.now signature.now ≡ []) }
+        ensures stopped { IfErr result (λ stop. IsUnbound self.now → stop ≡ Memory) }
+    {
+        let round = self.rounds.first(alloc, signature, steps)?;
+        Ok(round.is_some())
+    }
+
+    // Adds the finding of a signature, where it has one. No cycle has fewer than two edges, and each has models that go round
+    // as it does.
     fn add_shown(
         &self,
         alloc: Global,
@@ -303,7 +367,10 @@ impl Finder<'_> {
         if signature.len() < 2 {
             return Ok(());
         }
-        if !begins_least(signature) {
+        if !self.may_close(signature) || !begins_least(signature) {
+            return Ok(());
+        }
+        if !self.goes_round(alloc, signature, steps)? {
             return Ok(());
         }
         if let Some(cycle) = first_with(alloc, &self.cycles, self.len, signature, steps)? {

@@ -8,6 +8,7 @@ ghost use Rattle.gl_findings.specs.bodies.Told.{AreGrounds};
 
 use crate::classes::{classes_of, next_classes};
 use crate::models::models_of;
+use crate::passages::Passages;
 use crate::runners::{Runner, runners_of};
 use gl_edges::EdgeList;
 use gl_event::Memory;
@@ -25,6 +26,8 @@ pub(crate) struct Grounds {
     pub(crate) next: Vec<usize>,
     // and which thread runs it, where one alone does
     pub(crate) runners: Vec<Runner>,
+    // and which classes lead on to which
+    pub(crate) passages: Passages,
 }
 
 // Written out, so that it is proved once: a derived drop is proved again wherever one is let go.
@@ -36,6 +39,7 @@ impl Drop for Grounds {
             models,
             next,
             runners,
+            passages,
         } = self;
     }
 }
@@ -53,12 +57,14 @@ impl Grounds {
         let models = models_of(alloc, edges, &classes, &kept)?;
         let next = next_classes(alloc, &classes, &models)?;
         let runners = runners_of(alloc, edges.entries(), &classes, &kept)?;
+        let passages = Passages::of(alloc, edges.entries(), &classes, &models)?;
         Ok(Grounds {
             classes,
             kept,
             models,
             next,
             runners,
+            passages,
         })
     }
 }

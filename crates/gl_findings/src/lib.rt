@@ -17,6 +17,7 @@ mod laws;
 mod listing;
 mod models;
 mod parallel;
+mod passages;
 mod reports;
 mod roots;
 mod runners;

@@ -113,6 +113,28 @@ impl LaneIn {
         }
     }
 
+    /// Pushes a note, where there is certainly room for it, as after `has_room` said so. It takes one step and
+    /// no memory.
+    #[inline(always)]
+    pub fn push_known(&mut self, note: Note)
+        requires known { 0 < self.old.room }
+        requires placed { IsPlaced note }
+        ensures lane { self.new.lane ≡ self.old.lane }
+        ensures pushed { self.new.pushed ≡ self.old.pushed ++ note ∷ [] }
+        ensures room { self.old.room ≡ self.new.room + 1 }
+    {
+        let Note {
+            thread,
+            place,
+            body,
+        } = note;
+        self.producer.push_reserved(Note {
+            thread,
+            place,
+            body,
+        });
+    }
+
     /// Whether there is certainly room for a note: a push is then certain. Where there isn't, the
     /// collector may have made some since, and `push` looks. It takes one step.
     #[inline(always)]

@@ -2,9 +2,8 @@
 ghost use Rattle.std.specs.Prelude.{◌≡◌, ◌≢◌, List};
 ghost use Rattle.gl_event.specs.declared.events.Event.{Event};
 ghost use Rattle.gl_segments.specs.Orders.{IsFaultOf};
-ghost use Rattle.gl_segments.specs.declared.faults.OrderFault.TheVariants.{Memory as NoOrder};
 ghost use Rattle.gl_engine.specs.declared.faults.SettleFault.TheVariants.{Memory as NotSettled};
-ghost use Rattle.gl_live.specs.Faults.{IsLiveFault};
+ghost use Rattle.gl_live.specs.Faults.{IsLiveFault, live_fault_of};
 ghost use Rattle.gl_live.specs.declared.faults.LiveFault.TheVariants.{Memory, Unconfirmed};
 ghost use Rattle.gl_shards.specs.declared.worker.ServeFault.TheVariants.{Cut, Memory as NotServed};
 
@@ -37,9 +36,9 @@ pub enum StreamFault {
 
 /// Why there is no report where the segments have no order.
 pub fn unordered(fault: OrderFault) -> LiveFault
+    ensures same { result ≡ live_fault_of fault }
     ensures fault { (lists : List (List Event)) → IsFaultOf lists fault
         → IsLiveFault lists result }
-    ensures memory { fault ≡ NoOrder → result ≡ Memory }
 {
     match fault {
         OrderFault::Inconsistent { at, ring } => LiveFault::Inconsistent { at, ring },

@@ -11,7 +11,7 @@ use Rattle.gl_filters.specs.Test.{leads_to, lead_on, leads_back, last_of, goes_w
 use Rattle.gl_filters.proofs.Cycling.{leads_same}
 use Rattle.gl_filters.proofs.Paths.{list_all_push, is_path_push}
 use Rattle.gl_walks.specs.declared.purpose.Purpose.{Purpose}
-use Rattle.gl_walks.specs.declared.purpose.Purpose.TheVariants.{Cycle, Front}
+use Rattle.gl_walks.specs.declared.purpose.Purpose.TheVariants.{Cycle, Front, Round}
 use Rattle.gl_walks.specs.Walks.{kinds_together, is_front, fits}
 use Rattle.gl_walks.specs.bodies.Fronts.{goes_by, may_follow, passes, may_end}
 
@@ -59,6 +59,11 @@ module _ (before : Segment → Segment → Bool) (mode : Mode) where
   pub passes_push : (purpose : Purpose) (es : List Edge) (f : Edge) → passes purpose before mode (es ++ f ∷ []) ≡ (passes purpose before mode es && may_follow purpose before mode es f)
   passes_push Cycle es f = is_path_push before mode es f ∙ ap (λ b. is_path before mode es && b) (follows_path es f)
   passes_push Front es f = is_front_push es f
+  passes_push Round es f = is_front_push es f ∙ ap (λ b. is_front mode es && b) (same_follows es f)
+    where
+      same_follows : (es : List Edge) (f : Edge) → may_follow Front before mode es f ≡ may_follow Round before mode es f
+      same_follows [] f = refl
+      same_follows (e ∷ es) f = refl
 
   -- a front of what passes does
   pub passes-front : (purpose : Purpose) (es fs : List Edge) → passes purpose before mode (es ++ fs) ≡ true → passes purpose before mode es ≡ true
@@ -75,6 +80,7 @@ module _ (before : Segment → Segment → Bool) (mode : Mode) where
   unfolding is_path is_front
   passes_none Cycle = refl
   passes_none Front = refl
+  passes_none Round = refl
 
   -- what fits passes and may end
   pub fits_parts : (purpose : Purpose) (es : List Edge) → fits purpose before mode es ≡ true → (passes purpose before mode es ≡ true) × (may_end purpose es ≡ true)
@@ -84,6 +90,7 @@ module _ (before : Segment → Segment → Bool) (mode : Mode) where
       let round = and_parts (is_path before mode es) (leads_back es) long.1 in
       (round.0, and_from _ _ long.0 round.1)
   fits_parts Front es fitting = (fitting, refl)
+  fits_parts Round es fitting = and_parts (is_front mode es) (leads_back es) fitting
 
   -- and the other way round
   pub fits_from : (purpose : Purpose) (es : List Edge) → passes purpose before mode es ≡ true → may_end purpose es ≡ true → fits purpose before mode es ≡ true
@@ -92,6 +99,7 @@ module _ (before : Segment → Segment → Bool) (mode : Mode) where
       let parts = and_parts (nat_le 2 (length es)) (leads_back es) ends in
       and_from _ _ parts.0 (and_from _ _ passing parts.1)
   fits_from Front es passing ends = passing
+  fits_from Round es passing ends = and_from _ _ passing ends
 
   -- an edge that follows holds the lock which the last one wants
   pub led_on : (purpose : Purpose) (e : Edge) (es : List Edge) (f : Edge) → may_follow purpose before mode (e ∷ es) f ≡ true → (last_of e es).wanted ≡ f.held
@@ -101,6 +109,7 @@ module _ (before : Segment → Segment → Bool) (mode : Mode) where
   unfolding goes_with kinds_go_together
   held_differ Cycle e f goes same = false≢true (sym (not_from_true _ (eq-eqb _ _ same)) ∙ (and_parts _ _ (and_parts _ _ goes).0).0)
   held_differ Front e f goes same = false≢true (sym (not_from_true _ (eq-eqb _ _ same)) ∙ (and_parts _ _ goes).0)
+  held_differ Round e f goes same = false≢true (sym (not_from_true _ (eq-eqb _ _ same)) ∙ (and_parts _ _ goes).0)
 
   -- nothing follows where the last edge leads back to the first
   pub none_behind_closed : (purpose : Purpose) (es : List Edge) (f : Edge) → leads_back es ≡ true → may_follow purpose before mode es f ≡ true → ⊥

@@ -7,9 +7,9 @@ use Rattle.gl_event.specs.declared.events.Segment.{Segment}
 use Rattle.gl_edges.specs.declared.edge.Edge.{Edge}
 use Rattle.gl_filters.specs.declared.query.Mode.{Mode}
 use Rattle.gl_filters.specs.Picked.{picked}
-use Rattle.gl_filters.specs.Test.{lead_on, kinds_go_together, is_cycle}
+use Rattle.gl_filters.specs.Test.{lead_on, leads_back, kinds_go_together, is_cycle}
 use Rattle.gl_walks.specs.declared.purpose.Purpose.{Purpose}
-use Rattle.gl_walks.specs.declared.purpose.Purpose.TheVariants.{Cycle, Front}
+use Rattle.gl_walks.specs.declared.purpose.Purpose.TheVariants.{Cycle, Front, Round}
 
 -- the kind of each edge goes with that of each later one
 abbrev pub kinds_together : Mode → List Edge → Bool
@@ -24,6 +24,7 @@ is_front mode es = lead_on es && kinds_together mode es
 abbrev pub fits : Purpose → (Segment → Segment → Bool) → Mode → List Edge → Bool
 fits Cycle before mode es = is_cycle before mode es
 fits Front before mode es = is_front mode es
+fits Round before mode es = is_front mode es && leads_back es
 
 -- a walk through flagged edges, the first of the first class of the pattern, and so on to its last
 pub record IsWalk (purpose : Purpose) (before : Segment → Segment → Bool) (mode : Mode)

@@ -8,4 +8,6 @@ pub enum Purpose {
     /// A front of a round, as far as the kinds of its edges tell: each edge leads on to the next one, their held
     /// locks differ, and from Guarded on no two have a gate lock. Threads and segments aren't looked at.
     Front,
+    /// A whole round of such a front: its last edge leads back to its first.
+    Round,
 }

@@ -67,7 +67,7 @@ impl Search<'_> {
     {
         match self.purpose {
             Purpose::Cycle => goes_with(self.area.mode, self.area.order, e, f),
-            Purpose::Front => kinds_go_together(self.area.mode, e, f),
+            Purpose::Front | Purpose::Round => kinds_go_together(self.area.mode, e, f),
         }
     }
 
@@ -94,7 +94,7 @@ impl Search<'_> {
     {
         match self.purpose {
             Purpose::Cycle => first.thread.number() <= edge.thread.number(),
-            Purpose::Front => true,
+            Purpose::Front | Purpose::Round => true,
         }
     }
 
@@ -150,6 +150,7 @@ impl Search<'_> {
                 self.is_closed(path)
             }
             Purpose::Front => true,
+            Purpose::Round => self.is_closed(path),
         }
     }
 

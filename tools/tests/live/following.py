@@ -2,6 +2,7 @@
 
 import json
 import os
+import shutil
 import subprocess
 
 from c_programs import Run, end, raw_directory
@@ -123,3 +124,28 @@ def compare_bytes(path, expected):
     if data != expected:
         compare(*(json.dumps(json.loads(text), indent=1).split("\n") for text in (data, expected)))
         raise AssertionError("the bytes differ, the values don't")
+
+
+def same_as_by_a_trace(*command, options=(), asked=()):
+    """A program that was followed; its report has the bytes that the trace of another run gives. `options` are those of both runs, `asked`
+    those of reports alone."""
+    done = reported(*command, options=[*options, *asked])
+    assert done.status == 0, done.said
+    trace = recorded(*command, options=options)
+    assert trace.status == 0, trace.said
+    compare_bytes("r.json", predicted(options=asked))
+    return done
+
+
+def same_when_left_behind(directory, asked=(), others=()):
+    """What a recording left behind says the same as a trace and as a report; `others`: paths of further reports, as text. What was said of
+    these."""
+    for copy in ("trace", *others):
+        shutil.copytree(directory, "copy." + copy)
+    done = subprocess.run([RECORD, "-o", "t.std", "--convert", "copy.trace"], stderr=subprocess.PIPE, timeout=LIMIT)
+    assert done.returncode == 0, done.stderr.decode()
+    said = [report_later("copy." + path, path, asked) for path in others]
+    report_later(directory, options=asked)
+    assert not os.path.exists(directory), "the directory is still there"
+    compare_bytes("r.json", predicted(options=asked))
+    return said

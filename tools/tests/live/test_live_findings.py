@@ -2,7 +2,6 @@
 
 import json
 import os
-import shutil
 import signal
 import subprocess
 import sys
@@ -13,17 +12,16 @@ from c_programs import MARKS
 from following import (
     ORDERS,
     Live,
-    compare_bytes,
     cycles_in,
     left_behind,
     lines_of,
     predicted,
     read_report,
-    recorded,
-    report_later,
     reported,
+    same_as_by_a_trace,
+    same_when_left_behind,
 )
-from known_traces import RECORD, TOOLS, compare, read_lines, wait_for
+from known_traces import TOOLS, compare, read_lines, wait_for
 
 sys.path.insert(0, os.path.join(TOOLS, "record"))
 
@@ -62,24 +60,18 @@ def test_one_fault_of_many_threads():
 
 def test_one_fault_as_json():
     """With all edges, in the bytes that a trace of another run gives."""
-    done = reported("./live", "one_fault", "3", options=FINDINGS)
-    assert done.status == 0 and done.said.endswith("r.json: 1 finding; settled\n"), done.said
+    done = same_as_by_a_trace("./live", "one_fault", "3", asked=FINDINGS)
+    assert done.said.endswith("r.json: 1 finding; settled\n"), done.said
     report = read_report()
     assert (report["format"], len(report["edges"])) == (3, 6 * 7), str(report)
     assert cycles_in(report) == [[("main.1:writes", "books", "pages"), ("main.4:reads", "pages", "books")]], str(report)
-    assert recorded("./live", "one_fault", "3").status == 0
-    compare_bytes("r.json", predicted(options=FINDINGS))
 
 
 @pytest.mark.parametrize("seed", range(1, 5))
 def test_same_findings_as_by_a_trace_on_random_events(seed):
     command = ["./random", str(seed), "3000"]
-    assert reported(*command, options=FINDINGS).status == 0
-    done = reported(*command, options=FINDINGS, path="r.txt")
-    recorded(*command)
-    compare(done.lines(), predicted_lines())
-    reported(*command, options=FINDINGS)
-    compare_bytes("r.json", predicted(options=FINDINGS))
+    same_as_by_a_trace(*command, asked=FINDINGS)
+    compare(reported(*command, options=FINDINGS, path="r.txt").lines(), predicted_lines())
 
 
 @pytest.mark.parametrize(
@@ -93,12 +85,9 @@ def test_same_findings_as_by_a_trace_on_random_events(seed):
 )
 def test_what_is_asked_for(program, options, count):
     """Of 20 locks in opposite orders below a gate any two make a cycle where gates don't count, and all are made by the same lines."""
-    command = ["./live", *program.split()]
-    done = reported(*command, options=[*FINDINGS, *options.split()])
+    done = same_as_by_a_trace("./live", *program.split(), asked=[*FINDINGS, *options.split()])
     assert len(read_report()["findings"]) == count, str(read_report()["findings"])
     assert "r.json: %d finding%s; settled" % (count, "s" * (count != 1)) in done.said, done.said
-    assert recorded(*command).status == 0
-    compare_bytes("r.json", predicted(options=[*FINDINGS, *options.split()]))
 
 
 @pytest.mark.parametrize("others", [3, 1500])
@@ -299,14 +288,7 @@ def test_hang_with_findings():
 
 def test_findings_of_what_was_left_behind():
     """A recording of threads that race, which was followed without the option: read as findings, as JSON and as text, and as a trace."""
-    directory = left_behind("./live", "races", "1")
-    for name in ("copy", "other"):
-        shutil.copytree(directory, name)
-    done = subprocess.run([RECORD, "-o", "t.std", "--convert", "copy"], stderr=subprocess.PIPE)
-    assert done.returncode == 0, done.stderr.decode()
-    said = report_later("other", "r.txt", FINDINGS)
+    (said,) = same_when_left_behind(left_behind("./live", "races", "1"), FINDINGS, ["r.txt"])
     assert "r.txt: 1 finding; so far" in said, said
     compare(read_lines("r.txt"), predicted_lines())
-    report_later(directory, options=FINDINGS)
-    compare_bytes("r.json", predicted(options=FINDINGS))
     assert cycles_in(read_report())[0][0][1:] in (("a", "b"), ("b", "a")), str(cycles_in(read_report()))

@@ -1,24 +1,19 @@
 """The report at the end: it is that of a trace."""
 
-import os
-import shutil
-import subprocess
-
 import pytest
 from c_programs import MARKS, end, raw_directory
 from following import (
     Live,
-    compare_bytes,
     cycles_in,
     left_behind,
     lines_of,
-    predicted,
     read_report,
-    recorded,
     report_later,
     reported,
+    same_as_by_a_trace,
+    same_when_left_behind,
 )
-from known_traces import NO_EVENTS, RECORD, compare, wait_for
+from known_traces import NO_EVENTS, compare, wait_for
 
 
 @pytest.mark.parametrize(
@@ -27,12 +22,10 @@ from known_traces import NO_EVENTS, RECORD, compare, wait_for
 )
 def test_known_cycles(name, count):
     """As many cycles as the program is made for, and the same bytes as from the trace of another run."""
-    done = reported("./cycles", name)
-    assert done.status == 0 and "; settled" in done.said, done.said
+    done = same_as_by_a_trace("./cycles", name)
+    assert "; settled" in done.said, done.said
     assert len(read_report()["cycles"]) == count, str(read_report()["cycles"])
     assert done.files() in (["r.json"], ["r.json", "r.json.lines"]), str(done.files())
-    assert recorded("./cycles", name).status == 0
-    compare_bytes("r.json", predicted())
 
 
 def test_as_text():
@@ -60,32 +53,19 @@ SAME_AGAIN = (
 
 @pytest.mark.parametrize("name", SAME_AGAIN)
 def test_same_report_as_by_a_trace(name):
-    done = reported("./locks", name)
-    assert done.status == 0, done.said
-    assert recorded("./locks", name).status == 0
-    compare_bytes("r.json", predicted())
+    same_as_by_a_trace("./locks", name)
 
 
 @pytest.mark.parametrize("options", [[], ["--all"], ["--frames", "2"]], ids=["plain", "all", "frames"])
 @pytest.mark.parametrize("seed", range(1, 9))
 def test_same_report_as_by_a_trace_on_random_events(seed, options):
-    command = ["./random", str(seed), "3000"]
-    done = reported(*command, options=options)
-    assert done.status == 0, done.said
-    recorded(*command, options=options)
-    compare_bytes("r.json", predicted())
+    same_as_by_a_trace("./random", str(seed), "3000", options=options)
 
 
 @pytest.mark.parametrize("seed", range(4))
 def test_report_and_trace_of_one_recording(seed):
     """Threads that race: what is left behind is read as a report and as a trace, which must say the same."""
-    directory = left_behind("./live", "races", str(seed))
-    shutil.copytree(directory, "copy")
-    done = subprocess.run([RECORD, "-o", "t.std", "--convert", "copy"], stderr=subprocess.PIPE)
-    assert done.returncode == 0, done.stderr.decode()
-    report_later(directory)
-    assert not os.path.exists(directory), "the directory is still there"
-    compare_bytes("r.json", predicted())
+    same_when_left_behind(left_behind("./live", "races", str(seed)))
     report = read_report()
     assert len(report["edges"]) > 20 and len(report["cycles"]) == 1, "%d edges" % len(report["edges"])
 
@@ -135,13 +115,10 @@ def test_nothing_is_said_of_cycles_across_windows(others, cycles):
 def test_what_is_asked_for(program, options, cycles, more):
     """A ring has one cycle, of as many edges as it has threads; of 20 locks in opposite orders below a gate any two make one, which
     counts where gates don't."""
-    command = ["./live", *program.split()]
-    done = reported(*command, options=options.split())
+    done = same_as_by_a_trace("./live", *program.split(), asked=options.split())
     report = read_report()
     assert (len(report["cycles"]), report["more"]) == (cycles, more), done.said
     assert "r.json: %d cycle%s%s; settled" % (cycles, "s" * (cycles != 1), " (more)" * more) in done.said, done.said
-    assert recorded(*command).status == 0
-    compare_bytes("r.json", predicted(options=options.split()))
 
 
 ASKED = ["--mode", "basic", "--len", "3", "--max", "7"]

@@ -1,6 +1,7 @@
 """Each test runs in a folder of its own with the programs."""
 
 import os
+import shutil
 
 import pytest
 from c_programs import C_FLAGS, SOURCES, build, put
@@ -24,6 +25,9 @@ def programs(tmp_path_factory):
     build("g++", C_FLAGS + ["-std=c++17", "-O2", "-o", "wrappers-O2", source("wrappers.cc")], folder)
     flags = ["-std=c++17", "-O1", "-static-libstdc++", "-static-libgcc"]
     build("g++", C_FLAGS + flags + ["-o", "wrappers-static", source("wrappers.cc")], folder)
+    if shutil.which("clang++"):
+        flags = ["-std=c++17", "-O1", "-gdwarf-4"]  # whose inlined calls binutils reads
+        build("clang++", C_FLAGS + flags + ["-o", "wrappers-clang", source("wrappers.cc")], folder)
     build("g++", C_FLAGS + ["-std=c++17", "-O0", "-o", "once", source("once.cc")], folder)
     build("gcc", C_FLAGS + ["-O1", "-o", "memory", source("memory.c"), "-ldl"], folder)
     for name, line in (("one", 100), ("two", 200)):

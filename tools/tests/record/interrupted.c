@@ -20,7 +20,8 @@
 #include <unistd.h>
 
 enum { FILLERS = 300, NO_TRACING = 77 };
-enum { WALK, NESTED, ALONE }; /* forms: hand over hand, one within the other, one */
+enum { WALK, NESTED, ALONE, MAKES }; /* forms: hand over hand, one within the other, one; a thread is made and joined */
+enum { KNOWN = 150 };                /* so many acquires take a larger table */
 
 static pthread_mutex_t ring[3], own[4], filler[FILLERS];
 static pthread_mutex_t broken, broken_bytes, whole_bytes;
@@ -35,6 +36,18 @@ static volatile long wanted = -1, further, over;
 
 static void handler(int number);
 
+static void *nothing(void *unused)
+{
+    return unused;
+}
+
+static void make_and_join(void)
+{
+    pthread_t thread;
+    if (pthread_create(&thread, NULL, nothing, NULL) == 0)
+        pthread_join(thread, NULL);
+}
+
 /* Where a second signal may come in. */
 static void amid_handler(void)
 {
@@ -47,6 +60,10 @@ static void handler(int number)
 {
     pthread_mutex_t *first = &own[depth++ ? 2 : 0], *second = first + 1;
     (void)number;
+    if (form == MAKES) {
+        make_and_join();
+        return;
+    }
     amid_handler();
     pthread_mutex_lock(first);
     amid_handler();
@@ -127,6 +144,42 @@ static void walk_on(void)
     pthread_mutex_unlock(&ring[1]);
 }
 
+static void know_much(void)
+{
+    for (int i = 0; i < KNOWN; i++) {
+        pthread_mutex_lock(&filler[i]);
+        pthread_mutex_unlock(&filler[i]);
+    }
+}
+
+/* Two calls in a thread that knows much. */
+static void much(void)
+{
+    know_much();
+    pthread_mutex_lock(&ring[1]);
+    mark();
+    pthread_mutex_lock(&ring[2]);
+    pthread_mutex_unlock(&ring[1]);
+    mark();
+    pthread_mutex_unlock(&ring[2]);
+}
+
+/* A release there, before the thread makes another one. */
+static void give(void)
+{
+    know_much();
+    pthread_mutex_lock(&ring[1]);
+    mark();
+    pthread_mutex_unlock(&ring[1]);
+    mark();
+    if (stepping)
+        make_and_join();
+    pthread_mutex_lock(&ring[1]);
+    pthread_mutex_lock(&ring[2]);
+    pthread_mutex_unlock(&ring[2]);
+    pthread_mutex_unlock(&ring[1]);
+}
+
 /* A lock that can't be had at first. */
 static void fail(void)
 {
@@ -138,11 +191,6 @@ static void fail(void)
     }
     mark();
     between();
-}
-
-static void *nothing(void *unused)
-{
-    return unused;
 }
 
 /* What is known ends with a fork or join, so the handler is called on both sides of each. */
@@ -180,7 +228,8 @@ static const struct stretch {
 } stretches[] = {
     {"nested", nested, 0, AFTER},   {"within", within, 0, NEVER},  {"walk", walk, 1, AFTER},
     {"walk_on", walk_on, 1, AFTER}, {"known", walk_on, 1, BEFORE}, {"fail", fail, 1, AFTER},
-    {"make", make, 1, AFTER},       {"join", join, 1, AFTER},
+    {"make", make, 1, AFTER},       {"join", join, 1, AFTER},      {"much", much, 0, NEVER},
+    {"give", give, 0, NEVER},
 };
 
 static void *worker(void *value)
@@ -193,7 +242,8 @@ static void *worker(void *value)
         pthread_mutex_unlock(&filler[i]);
     }
     probing = 0;
-    handler(0);
+    if (form != MAKES)
+        handler(0);
     if (stretch->held)
         pthread_mutex_lock(&ring[0]);
     probing = stretch->probes == BEFORE;

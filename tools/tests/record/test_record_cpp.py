@@ -1,5 +1,7 @@
 """Wrappers of C++: the places are those of the program that uses them, and the names are the program's."""
 
+import shutil
+
 import pytest
 from c_traces import expect, known, record
 from known_traces import RECORD, compare, cycles_in, killed
@@ -39,12 +41,24 @@ WRAPPERS = """
     main|join(main.2:main::lambda)|@second_join
     main|fork(main.3:user)|@third
     main|join(main.3:user)|@third_join
+    main|acq(a)|@many_first
+    main|acq(b)|@many_second
+    main|rel(a)|@many_end
+    main|rel(b)|@many_end
+    main|acq(a)|@made
+    main|rel(a)|@made_end
+    main|racq(shared)|@perhaps
+    main|rrel(shared)|@perhaps_end
+    main|fork(main.4:user)|@worker
+    main|join(main.4:user)|@worker_join
     main.1:signaller|acq(a)|@signaller
     main.1:signaller|rel(a)|@signaller_end
     main.2:main::lambda|acq(a)|@lambda_lock
     main.2:main::lambda|rel(a)|@lambda_unlock
     main.3:user|acq(b)|@late_lock
-    main.3:user|rel(b)|@late_unlock"""
+    main.3:user|rel(b)|@late_unlock
+    main.4:user|acq(b)|@late_lock
+    main.4:user|rel(b)|@late_unlock"""
 
 
 @pytest.mark.parametrize(
@@ -54,6 +68,14 @@ def test_wrappers(program):
     run = record("./wrappers-" + program)
     assert run.status == 0, run.said
     compare(run.lines(), known(WRAPPERS, "wrappers.cc"))
+
+
+@pytest.mark.skipif(not shutil.which("clang++"), reason="clang++ isn't installed")
+def test_wrappers_by_clang():
+    """It has other names for lambdas, and tells the first line of a call."""
+    run = record("./wrappers-clang")
+    assert run.status == 0, run.said
+    compare(run.lines(), known(WRAPPERS.replace("@second_end", "@second"), "wrappers.cc"))
 
 
 USE_A = """

@@ -8,7 +8,7 @@ from known_traces import edges_of, is_front_of_a_run, others_of, read_lines
 
 NO_TRACING = 77
 LAST = 99999
-WALK, NESTED, ALONE = 0, 1, 2  # what the handler does
+WALK, NESTED, ALONE, MAKES = 0, 1, 2, 3  # what the handler does
 
 
 def threads_of(*words, options=()):
@@ -85,3 +85,33 @@ def test_amid_a_fork():
 @pytest.mark.parametrize("further", (2, 78))
 def test_two_signals(further):
     check("walk_on", WALK, 492, further, 13, LAST, least=20)
+
+
+def check_makes(stretch, stride, count, places):
+    """A handler makes and joins a thread, at one place after the other amid a stretch, which comes once more afterwards. This ends a segment, in
+    which nothing is known: so the edges are those of a handler that came at one of these places among the `count` lines of all. The
+    stretch of the last thread was over before the signal.
+    """
+    first, *threads, _ = threads_of(stretch, MAKES, 0, -1, stride, LAST)
+    (whole,) = threads_of(stretch, MAKES, 0, -1, stride, -1, options=["--all"])
+    assert len(threads) >= 20 and len(whole) == count, "%d threads, %d lines" % (len(threads), len(whole))
+    assert edges_of(first) == edges_of(whole), "the edges of a thread without a signal"
+    made = ["thread|fork(main.1.1)|", "thread|join(main.1.1)|"]
+    right = [edges_of(whole[:place] + made + whole[place:]) for place in places]
+    seen = [0] * len(right)
+    for number, lines in enumerate(threads):
+        is_front_of_a_run(lines)
+        edges = edges_of(lines)
+        assert edges in right, "%d * %d instructions after the mark, the edges are %s" % (number, stride, edges)
+        seen[right.index(edges)] += 1
+    assert all(seen), "signals at each place: %s" % seen
+
+
+def test_a_handler_that_makes_threads():
+    """In a thread that knows many acquires: these are looked up where they were."""
+    check_makes("much", 3, 6 * 4, (17, 18))
+
+
+def test_a_handler_that_makes_threads_before_another_one():
+    """Nothing was looked up in between."""
+    check_makes("give", 5, 6 * 6 + 2, (25,))

@@ -1,8 +1,11 @@
 /* Locks and threads by way of the C++ library. */
 #include <condition_variable>
+#include <memory>
 #include <mutex>
+#include <optional>
 #include <shared_mutex>
 #include <thread>
+#include <vector>
 
 static std::mutex a;
 static std::mutex b;
@@ -82,4 +85,17 @@ int main()
     second.join();                                    // @second_join
     std::thread third(user);                          // @third
     third.join();                                     // @third_join
+    std::vector<std::unique_lock<std::mutex>> many;
+    many.emplace_back(a);                             // @many_first
+    many.emplace_back(b);                             // @many_second
+    for (std::unique_lock<std::mutex> &one : many)
+        one.unlock();                                 // @many_end
+    auto made = std::make_unique<std::lock_guard<std::mutex>>(a); // @made
+    made.reset();                                     // @made_end
+    std::optional<std::shared_lock<std::shared_mutex>> perhaps;
+    perhaps.emplace(shared);                          // @perhaps
+    perhaps.reset();                                  // @perhaps_end
+    std::vector<std::thread> workers;
+    workers.emplace_back(user);                       // @worker
+    workers.back().join();                            // @worker_join
 }

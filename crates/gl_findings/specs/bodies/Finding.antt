@@ -4,12 +4,13 @@ use Rattle.gl_segments.specs.Clocks.{is_before}
 use Rattle.gl_filters.specs.Picked.{edges_of_table}
 use Rattle.gl_pruning.specs.OffCycles.{KeepsCycles}
 use Rattle.gl_walks.specs.declared.purpose.Purpose.{Purpose}
-use Rattle.gl_walks.specs.declared.purpose.Purpose.TheVariants.{Cycle, Front}
+use Rattle.gl_walks.specs.declared.purpose.Purpose.TheVariants.{Cycle, Front, Round}
 use Rattle.gl_filters.specs.declared.lengths.TheConstants.{LONGEST}
 use Rattle.gl_walks.specs.declared.walker.Walker.{Walker}
 use Rattle.gl_findings.specs.Findings.{classes_of}
 use Rattle.gl_findings.specs.bodies.Grounds.{AreModels, IsNextClass}
 use Rattle.gl_findings.specs.bodies.Running.{AreRunners}
+use Rattle.gl_findings.specs.bodies.Passing.{ArePassages}
 use Rattle.gl_findings.specs.bodies.Growing.{finding, block, blocks_below}
 use Rattle.gl_findings.specs.declared.finder.Finder.{Finder}
 use Rattle.gl_findings.specs.declared.parallel.ByClass.{ByClass}
@@ -27,9 +28,11 @@ pub record IsReady (s : Finder) : Type 0 where
   -- a signature has room for the classes of a cycle
   pub some : 0 < s.len
   pub fits : s.len ≤ LONGEST
-  -- the one walker looks for cycles among edges that are kept, and the other one for fronts among their models
+  -- the one walker looks for cycles among edges that are kept, and the other two for fronts and rounds among their models
   pub cycles : WalksFor s s.cycles Cycle
   pub fronts : WalksFor s s.fronts Front
+  pub rounds : WalksFor s s.rounds Round
+  pub same_models : s.rounds.ground.flags.now ≡ s.fronts.ground.flags.now
   pub kept : KeepsCycles (is_before s.order.now) s.mode s.len
       (edges_of_table s.table.now) s.cycles.ground.flags.now
   pub models : AreModels (edges_of_table s.table.now)
@@ -40,10 +43,15 @@ pub record IsReady (s : Finder) : Type 0 where
   -- and each has the thread that runs it, where one alone does
   pub run : AreRunners (edges_of_table s.table.now)
       (classes_of s.table.now) s.cycles.ground.flags.now s.runners.now
+  -- and which classes lead on to which
+  pub pass : ArePassages (edges_of_table s.table.now)
+      (classes_of s.table.now) s.fronts.ground.flags.now s.passages.now
 
--- no walk ends before it is through
+-- nothing ends before it is through
 abbrev pub IsUnbound : Finder → Type 0
-IsUnbound s = (s.cycles.is_bound ≡ false) × (s.fronts.is_bound ≡ false)
+IsUnbound s =
+    (s.is_bound ≡ false) × (s.cycles.is_bound ≡ false) × (s.fronts.is_bound ≡ false)
+    × (s.rounds.is_bound ≡ false)
 
 -- these were added behind those before, up to the cap
 abbrev pub AreAdded : Finder → (more before after : List (List ℕ)) → Type 0

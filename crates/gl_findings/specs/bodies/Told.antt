@@ -9,6 +9,7 @@ use Rattle.gl_pruning.specs.OffCycles.{KeepsCycles}
 use Rattle.gl_findings.specs.Findings.{classes_of}
 use Rattle.gl_findings.specs.bodies.Grounds.{AreModels, IsNextClass}
 use Rattle.gl_findings.specs.bodies.Running.{AreRunners}
+use Rattle.gl_findings.specs.bodies.Passing.{ArePassages}
 use Rattle.gl_findings.specs.declared.grounds.Grounds.{Grounds}
 
 -- it is so
@@ -20,3 +21,4 @@ pub record AreGrounds (before : Segment → Segment → Bool) (mode : Mode) (len
   pub have : AreModels (edges_of_table table) (classes_of table) g.kept.items g.models.items
   pub follow : IsNextClass (length table) (classes_of table) g.models.items g.next.items
   pub run : AreRunners (edges_of_table table) (classes_of table) g.kept.items g.runners.items
+  pub pass : ArePassages (edges_of_table table) (classes_of table) g.models.items g.passages

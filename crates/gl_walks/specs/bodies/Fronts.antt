@@ -13,7 +13,7 @@ use Rattle.gl_walks.specs.declared.chains.Chain.{Chain}
 use Rattle.gl_walks.specs.declared.keys.Keyed.{Keyed}
 use Rattle.gl_walks.specs.declared.keys.Keyed.TheVariants.{ByClass, ByLock}
 use Rattle.gl_walks.specs.declared.purpose.Purpose.{Purpose}
-use Rattle.gl_walks.specs.declared.purpose.Purpose.TheVariants.{Cycle, Front}
+use Rattle.gl_walks.specs.declared.purpose.Purpose.TheVariants.{Cycle, Front, Round}
 use Rattle.gl_walks.specs.declared.ground.Ground.{Ground}
 use Rattle.gl_walks.specs.Walks.{is_front, IsWalk}
 use Rattle.gl_walks.specs.bodies.Listing.{Key, key_at, IsChain}
@@ -22,11 +22,13 @@ use Rattle.gl_walks.specs.bodies.Listing.{Key, key_at, IsChain}
 abbrev pub goes_by : Purpose → (Segment → Segment → Bool) → Mode → Edge → Edge → Bool
 goes_by Cycle before mode e f = goes_with before mode e f
 goes_by Front before mode e f = kinds_go_together mode e f
+goes_by Round before mode e f = kinds_go_together mode e f
 
 -- the second edge may stand in a walk that begins with the first
 abbrev pub stays_above : Purpose → Edge → Edge → Bool
 stays_above Cycle e f = nat_le e.thread f.thread
 stays_above Front e f = true
+stays_above Round e f = true
 
 -- the edge may come next in a walk
 abbrev pub may_follow : Purpose → (Segment → Segment → Bool) → Mode → List Edge → Edge → Bool
@@ -39,11 +41,13 @@ may_follow purpose before mode (e ∷ es) f =
 abbrev pub passes : Purpose → (Segment → Segment → Bool) → Mode → List Edge → Bool
 passes Cycle before mode es = is_path before mode es
 passes Front before mode es = is_front mode es
+passes Round before mode es = is_front mode es
 
 -- they may be all of it
 abbrev pub may_end : Purpose → List Edge → Bool
 may_end Cycle es = nat_le 2 (length es) && leads_back es
 may_end Front es = true
+may_end Round es = leads_back es
 
 -- what is looked for
 pub record Sought : Type 0 where

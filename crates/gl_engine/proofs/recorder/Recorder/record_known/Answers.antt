@@ -7,7 +7,7 @@ pub invariant_of-self : goal.invariant_of-self
 invariant_of-self c =
     let (allowed, is) = answered _ _ _ (c.in-Ok.ensures.answers _ _ _ c.self.invariant.tracks) in
     let tracks = c.in-Ok.ensures.tracks _ _ _ c.self.invariant.tracks in
-    let pushed = c.push_certainly.ensures.pushed ∙ ap (λ note. c.self.inside.lane.pushed ++ note ∷ []) is in
-    subst (λ thread. IsRecorder c.self.inside.limits thread c.push_certainly.new.lane.pushed c.take.new.self) (sym tracks.its_thread)
+    let pushed = c.push_known.ensures.pushed ∙ ap (λ note. c.self.inside.lane.pushed ++ note ∷ []) is in
+    subst (λ thread. IsRecorder c.self.inside.limits thread c.push_known.new.self.pushed c.take.new.self) (sym tracks.its_thread)
     (subst (λ notes. IsRecorder c.self.inside.limits c.self.inside.taker.thread notes c.take.new.self) (sym pushed)
     (recorder_more _ _ _ _ c.self.invariant c.args.event.now allowed c.take.new.self tracks))

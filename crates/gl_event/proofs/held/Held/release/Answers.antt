@@ -5,7 +5,7 @@ use Rattle.gl_event.proofs.held.Held.release.Goals as goal
 -- the lock is no longer held
 pub returns-then-entry-le1-clause-answers : goal.returns-then-entry-le1-clause-answers
 returns-then-entry-le1-clause-answers c =
-    λ es stands. rw (c.remove.ensures.items, c.self.view_is) (answers_closed es _ stands _ c.in-Some.entry c.in-Some.ensures.0 _ c.in-Some.ensures.1 c.if-entry-le1.true)
+    λ es stands. rw c.take_out.ensures (answers_closed es _ stands _ c.in-Some.entry c.in-Some.ensures.0 _ c.in-Some.ensures.1 c.if-entry-le1.true)
 
 pub put-requires : goal.put-requires
 put-requires c = slice_get_within _ _ _ c.in-Some.ensures.0

@@ -1,9 +1,11 @@
-use Rattle.std.proofs.Common.{◌+◌, ◌-◌, length, map, ap, arith, rules}
-use Rattle.std.proofs.lemmas.List.{length-map}
+use Rattle.std.proofs.Common.{◌≡◌, ◌+◌, ◌-◌, [], ◌∷◌, ◌∙◌, length, map, refl, ap, subst, arith, rules}
+use Rattle.std.proofs.lemmas.List.{length-append, length-map}
 use Rattle.std.proofs.lemmas.Result.{on_ok_weaker}
 use Rattle.gl_segments.specs.Clocks.{is_before}
 use Rattle.gl_findings.proofs.Below.{grown_room, finding_room}
-use Rattle.gl_findings.proofs.Prepared.{begin, step, lower, alone, whole, later, next_at}
+use Rattle.gl_cycles.specs.Cycles.{cycles_in}
+use Rattle.gl_findings.specs.bodies.Finding.{finding_of}
+use Rattle.gl_findings.proofs.Prepared.{none_open, nothing_more, begin, step, lower, alone, whole, later, next_at}
 use Rattle.gl_findings.proofs.finder.Finder.+grow.Goals as goal
 
 -- the signature may not be longer
@@ -70,3 +72,13 @@ pub grow_on-loop-next-preserved : goal.grow_on-loop-next-preserved
 grow_on-loop-next-preserved t c =
     let s = c.args.self.now in
     step s c.requires.ready (s.len - length c.args.signature.now - 1) c.args.signature.now _ _ _ c.loop-next.next _ c.loop-next.invariant c.in_ok-grow_by.ensures.grown (next_at s c.requires.ready (c.loop-next.next + 1) (omega arith))
+
+-- it would be as long as a cycle may be, and doesn't lead round
+pub grow_by-returns-then-not-may_close-clause-grown : goal.grow_by-returns-then-not-may_close-clause-grown
+grow_by-returns-then-not-may_close-clause-grown t c =
+    let s = c.args.self.now in
+    let whole = c.longer-longer.ensures in
+    let none = subst (λ l. finding_of s l ≡ []) (c.as_slice.ensures.value ∙ whole) (c.if-not-may_close.ensures refl) in
+    let long = length-append c.args.signature.now (c.args.class ∷ []) in
+    nothing_more s c.requires.ready (cycles_in c.args.found.now.items) _ (omega (arith, c.requires.room, length-map c.args.found.now.items (λ cycle. cycle.items)))
+    (none_open s c.requires.ready c.args.signature.now c.args.class (omega (arith, long, ap length whole, c.len.ensures.value, c.if-len-self.true)) none)

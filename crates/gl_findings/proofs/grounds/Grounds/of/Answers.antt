@@ -1,3 +1,7 @@
+use Rattle.std.proofs.Common.{rules, subst}
+use Rattle.std.proofs.lemmas.List.{length-map}
+use Rattle.gl_findings.specs.Findings.{class_of, classes_of}
+use Rattle.gl_findings.specs.bodies.Grounds.{IsNextClass}
 use Rattle.std.proofs.lemmas.Result.{err_from_is_err_and}
 use Rattle.gl_findings.proofs.grounds.Grounds.of.Goals as goal
 
@@ -20,3 +24,19 @@ pub returns-in_err-runners : goal.returns-in_err-runners
 returns-in_err-runners c =
     let p = err_from_is_err_and c.from_residual-in_err-runners.result c.from_residual-in_err-runners.ensures.1 in
     rw p.1 tt
+
+pub returns-in_err-passages : goal.returns-in_err-passages
+returns-in_err-passages c =
+    let p = err_from_is_err_and c.from_residual-in_err-passages.result c.from_residual-in_err-passages.ensures.1 in
+    rw p.1 tt
+
+pub returns : goal.returns
+returns c = λ before mode len keeps. record {
+  same_classes = search rules;
+  keeps = keeps;
+  long = search rules;
+  have = search rules;
+  follow = subst (λ n. IsNextClass n (classes_of c.args.edges.now) c.in_ok-models.models.items c.in_ok-next.next.items) (length-map c.args.edges.now (class_of c.args.edges.now)) (search rules);
+  run = search rules;
+  pass = search rules;
+}
