@@ -1,7 +1,7 @@
 // Tests goodlock.hpp where threads record more than the collecting thread can pull, and where they go on while the
 // session ends.
 //
-//     library_busy turns      a thread beside busy ones gets on as they do
+//     library_busy turns      lanes that are always full are pulled in turn
 //     library_busy asked      who asks for the session's mutex gets it from a collecting thread that always has notes
 //     library_busy finish     finish() beside threads that record for ever
 //     library_busy filled     lanes that are full when finish() begins are in the settled report
@@ -20,6 +20,23 @@ static std::atomic<uint64_t> notes{0}, late_notes{0}, pulls{0}; // late: once re
 static std::atomic<uint64_t> last_note{UINT64_MAX};             // after which is_over is set
 static std::atomic<unsigned> feigned{0};                        // so many pulls find what isn't there
 static std::atomic<bool> is_blind{false}, is_slow{false}, is_held{false}, is_over{false};
+
+constexpr uint32_t BUSY = 12, LAST = BUSY + 1; // threads, and the lane of the last one beside them and the main thread
+
+// What is pulled off each lane between two looks at the last one, and the most of it.
+static std::atomic<bool> is_counted{false};
+static uint64_t looks_at_last = 0, since[LAST] = {}, most_since = 0;
+
+static void count_look(uint32_t lane, uint32_t found)
+{
+    if (!is_counted)
+        return;
+    if (lane == LAST) {
+        looks_at_last++;
+        std::fill(since, since + LAST, 0);
+    } else
+        most_since = std::max(most_since, since[lane] += found);
+}
 
 static void wait_until(bool is_asked(), const char *what)
 {
@@ -65,16 +82,18 @@ uint32_t __real_goodlock_pull_lane(goodlock_session *session, uint32_t thread, u
 
 uint32_t __wrap_goodlock_pull(goodlock_session *session, uint32_t most, goodlock_pulled *pulled)
 {
-    return pull_by([=] { return __real_goodlock_pull(session, most, pulled); }, pulled);
+    const uint32_t code = pull_by([=] { return __real_goodlock_pull(session, most, pulled); }, pulled);
+    count_look(0, pulled->events + pulled->ended); // as if all were off one lane
+    return code;
 }
 
 uint32_t __wrap_goodlock_pull_lane(goodlock_session *session, uint32_t thread, uint32_t most, goodlock_pulled *pulled)
 {
-    return pull_by([=] { return __real_goodlock_pull_lane(session, thread, most, pulled); }, pulled);
+    const uint32_t code = pull_by([=] { return __real_goodlock_pull_lane(session, thread, most, pulled); }, pulled);
+    count_look(thread, pulled->events + pulled->ended);
+    return code;
 }
 }
-
-constexpr uint32_t BUSY = 12;
 
 // Locks and unlocks a lock of its own as often as it may.
 template <class F> static void turns_while(F may_go_on)
@@ -84,45 +103,31 @@ template <class F> static void turns_while(F may_go_on)
         goodlock::guard<goodlock::mutex> hold(own);
 }
 
-// The most turns that one of many threads makes while the last one makes so many.
-static unsigned long most_turns_while(unsigned long few, unsigned long many)
+// Pulls take so long that lanes are always full. Between two looks at the lane of a thread that makes few turns, no more
+// than a ring is pulled off any other.
+static void turns()
 {
-    std::atomic<bool> may_begin{false};
-    std::atomic<unsigned long> most{0};
+    const uint32_t ring = 4096;
     std::vector<goodlock::thread> busy;
+    is_slow = true;
+    check(goodlock::start(BUSY + 2, ring) == GOODLOCK_OK, "start");
     for (uint32_t i = 0; i < BUSY; i++)
-        busy.emplace_back([&] {
-            while (!may_begin)
+        busy.emplace_back([] {
+            while (!is_counted)
                 std::this_thread::yield();
-            unsigned long made = 0, known = 0;
-            turns_while([&](unsigned long count) {
-                made = count;
-                return !is_over && count < many;
-            });
-            while (made > known && !most.compare_exchange_weak(known, made))
-                ;
+            turns_while([](unsigned long count) { return is_counted && count < 10 * ring; });
         });
-    goodlock::thread last([&] {
-        may_begin = true;
-        turns_while([&](unsigned long count) { return count < few; });
-        is_over = true;
+    goodlock::thread last([] {
+        is_counted = true;
+        turns_while([](unsigned long count) { return count < ring; });
+        is_counted = false;
     });
     last.join();
     is_slow = false;
     for (goodlock::thread &thread : busy)
         thread.join();
-    return most;
-}
-
-// Pulls take so long that lanes are always full. Nobody makes ten times as many turns as the last thread.
-static void turns()
-{
-    const uint32_t ring = 4096;
-    is_slow = true;
-    check(goodlock::start(BUSY + 2, ring) == GOODLOCK_OK, "start");
-    const unsigned long most = most_turns_while(ring, 10 * ring);
-    check(most < 10 * ring,
-          "while " + std::to_string(ring) + " turns are made another thread makes " + std::to_string(most));
+    check(looks_at_last > 1, std::to_string(looks_at_last) + " looks at the last thread's lane");
+    check(most_since <= ring, std::to_string(most_since) + " notes are pulled off a lane between two looks at another");
     const goodlock::result result = goodlock::finish();
     check(result.code == GOODLOCK_OK && result.is_settled && result.unrecorded == 0, "the report is settled");
 }
