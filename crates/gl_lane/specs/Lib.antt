@@ -1,2 +1,3 @@
 pub mod Lanes
 pub mod Rule
+pub mod bodies

@@ -4,10 +4,13 @@ ghost use mathlib.Core.List.{IsPrefix};
 ghost use Rattle.gl_event.specs.declared.limits.TheConstants.{MAX_RING};
 ghost use Rattle.gl_lane.specs.Rule.{IsPlaced};
 
-use gl_event::{Memory, Note};
+use gl_event::{Body, Memory, Note, ThreadId};
 use rtrb::{Consumer, Producer, Protocol, PushError, RingBuffer};
 use std::alloc::Global;
 use std::marker::Model;
+
+// How many notes are taken off the ring together, at most: each time costs a write on which all processors agree.
+const RUN: usize = 8;
 
 // The rule of a lane: an end mark's place is its count.
 struct Placed;
@@ -45,19 +48,28 @@ impl Model for LaneIn {
 #[derive(Drop)]
 pub struct LaneOut {
     consumer: Consumer<Note, Global, Placed>,
+    // the notes that were taken off the ring last
+    run: [Note; RUN],
+    // how many of them were popped, and how many there are
+    popped: usize,
+    taken: usize,
 }
 
 impl Model for LaneOut {
+    ghost use Rattle.std.specs.Prelude.{◌++◌};
     ghost use Rattle.rtrb.specs.Ring.{received, known_items};
     ghost use Rattle.gl_lane.specs.Lanes.{Popping, lane_of};
+    ghost use Rattle.gl_lane.specs.bodies.Runs.{rest, without, AreTaken};
 
     ghost Value = { Popping };
 
     ghost view = { λ l. record {
       lane = lane_of l.consumer.end;
-      popped = received l.consumer;
-      left = known_items l.consumer;
+      popped = without (rest l.popped l.taken l.run) (received l.consumer);
+      left = rest l.popped l.taken l.run ++ known_items l.consumer;
     } };
+
+    ghost invariant = { λ l. AreTaken l.popped l.taken l.run (received l.consumer) };
 }
 
 /// What a recorder leaves behind that has finished. It may move to the collector's thread.
@@ -91,7 +103,16 @@ pub fn lane(alloc: Global, capacity: u32) -> Result<(LaneIn, LaneOut), Memory>
         alloc,
         capacity as usize,
     )?;
-    Ok((LaneIn { producer }, LaneOut { consumer }))
+    Ok((LaneIn { producer }, LaneOut::new(consumer)))
+}
+
+// A note that nobody sees.
+fn no_note() -> Note {
+    Note {
+        thread: ThreadId::new(0),
+        place: 0,
+        body: Body::Ended { count: 0 },
+    }
 }
 
 impl LaneIn {
@@ -166,6 +187,27 @@ impl LaneIn {
 }
 
 impl LaneOut {
+    ghost use Rattle.std.specs.Prelude.{◌≡◌, ◌<◌, ◌++◌, ◌∷◌, [], length, IfSome, IfNone, MatchOption};
+    ghost use mathlib.Core.List.{IsPrefix};
+    ghost use Rattle.rtrb.specs.Ring.{received, known_items};
+    ghost use Rattle.gl_lane.specs.Rule.{IsPlaced};
+    ghost use Rattle.gl_lane.specs.Lanes.{lane_of};
+
+    // That of a ring of which nothing was popped.
+    fn new(consumer: Consumer<Note, Global, Placed>) -> LaneOut
+        requires none { received consumer ≡ [] }
+        ensures lane { result.lane ≡ lane_of consumer.end }
+        ensures popped { result.popped ≡ [] }
+        ensures left { result.left ≡ known_items consumer }
+    {
+        LaneOut {
+            consumer,
+            run: [no_note(); RUN],
+            popped: 0,
+            taken: 0,
+        }
+    }
+
     /// The oldest note in the lane, which stays there; `None` where it sees none. It takes one step
     /// and no memory.
     pub fn peek(&mut self) -> Option<Note>
@@ -175,10 +217,15 @@ impl LaneOut {
         ensures shown { MatchOption result (self.new.left ≡ [])
             (λ note. IsPrefix (note ∷ []) self.new.left) }
     {
-        if self.consumer.is_empty() {
+        if self.popped != self.taken {
+            return Some(self.run[self.popped]);
+        }
+        self.popped = 0;
+        self.taken = self.consumer.pop_partial_slice(&mut self.run);
+        if self.taken == 0 {
             return None;
         }
-        Some(*self.consumer.peek_known())
+        Some(self.run[0])
     }
 
     /// Pops the oldest note in the lane; `None` where it sees none. It takes one step and no memory.
@@ -192,9 +239,9 @@ impl LaneOut {
             ((self.new.popped ≡ self.old.popped) × (self.old.left ≡ [])
             × (self.new.left ≡ [])) }
     {
-        if self.consumer.is_empty() {
+        let Some(_) = self.peek() else {
             return None;
-        }
+        };
         Some(self.pop_known())
     }
 
@@ -207,7 +254,12 @@ impl LaneOut {
         ensures left { self.old.left ≡ result ∷ self.new.left }
         ensures placed { IsPlaced result }
     {
-        self.consumer.pop_known()
+        if self.popped == self.taken {
+            return self.consumer.pop_known();
+        }
+        let note = self.run[self.popped];
+        self.popped += 1;
+        note
     }
 
     /// Looks at all that is left in the lane once its recorder has finished: what was pushed is what

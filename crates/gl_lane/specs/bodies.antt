@@ -1,0 +1,2 @@
+-- The words of private functions. No public contract cites them.
+pub mod Runs
