@@ -1,4 +1,6 @@
 pub mod Apart
+pub mod Cut
+pub mod Rising
 pub mod Level
 pub mod Lone
 pub mod Off

@@ -3,10 +3,13 @@ ghost use Rattle.std.specs.Prelude.{◌≡◌, ◌<◌, length, IsTrue, IfOk, If
 ghost use Rattle.gl_filters.specs.Picked.{edges_of_table};
 ghost use Rattle.gl_pruning.specs.Loops.{KeepsLoops};
 ghost use Rattle.gl_pruning.specs.Sought.{KeepsSought, GoesOnSeeking};
+ghost use Rattle.gl_pruning.specs.bodies.Epochs.{epoch_at, AreCut};
 ghost use Rattle.gl_pruning.specs.bodies.Loops.{NoneFalls, NoneFallsAmong, is_level};
-ghost use Rattle.gl_pruning.specs.bodies.Ranks.{rank_in};
+ghost use Rattle.gl_pruning.specs.bodies.Ranks.{rank_in, rank_of_epoch};
+ghost use Rattle.gl_segments.specs.Clocks.{is_before};
 
-use crate::ranks::{Ranks, ranks_of};
+use crate::epochs::Epochs;
+use crate::ranks::{Ranks, held_rank, ranks_of, ranks_of_epochs, wanted_rank};
 use crate::sought::Sought;
 use gl_edges::{Edge, Sample};
 use gl_event::Memory;
@@ -22,7 +25,7 @@ use std::alloc::Global;
 pub fn edges_on_loops(alloc: Global, table: &[(Edge, Sample)]) -> Result<Vec<bool>, Memory>
     ensures { IfOk result (λ kept. KeepsLoops (edges_of_table table.now) kept.items) }
 {
-    let ranks = ranks_of(alloc, table, &[])?;
+    let ranks = ranks_of(alloc, table)?;
     match level_edges(alloc, table, &ranks)? {
         Some(level) => Ok(level),
         None => all_edges(alloc, table),
@@ -68,16 +71,18 @@ fn all_edges(alloc: Global, table: &[(Edge, Sample)]) -> Result<Vec<bool>, Memor
 }
 
 impl Sought<'_> {
-    // Whether no edge that is kept waits for one of a lower rank.
-    fn none_falls(&self, ranks: &Ranks, kept: &[bool]) -> bool
+    // Whether no edge that is kept waits for one of a lower rank in its epoch.
+    fn none_falls(&self, ranks: &[Ranks], epochs: &Epochs, kept: &[bool]) -> bool
         requires { length kept.now ≡ length self.now.table.now }
         ensures { IsTrue result
-            → NoneFallsAmong (rank_in ranks.now) (edges_of_table self.now.table.now) kept.now }
+            → NoneFallsAmong (rank_of_epoch ranks.now) (epoch_at epochs.now)
+            (edges_of_table self.now.table.now) kept.now }
     {
         for i in 0..self.table.len() {
             let edge = &self.table[i].0;
-            let held = ranks.rank(edge.held, edge.held_mode);
-            let wanted = ranks.least(edge.wanted, edge.wanted_mode);
+            let epoch = epochs.epoch(i);
+            let held = held_rank(ranks, epoch, edge);
+            let wanted = wanted_rank(ranks, epoch, edge);
             if kept[i] && held > wanted {
                 return false;
             }
@@ -86,23 +91,55 @@ impl Sought<'_> {
     }
 
     // Leaves out the edge at a position, if it waits for one of a higher rank, where none waits for one of a lower rank.
-    fn leave_out_if_rising(&self, ranks: &Ranks, kept: &mut Vec<bool>, i: usize)
+    fn leave_out_if_rising(
+        &self,
+        ranks: &[Ranks],
+        epochs: &Epochs,
+        kept: &mut Vec<bool>,
+        i: usize,
+    )
         requires there { i < length self.now.table.now }
         requires kept { KeepsSought self.now kept.old.items }
-        requires certified { NoneFallsAmong (rank_in ranks.now) (edges_of_table self.now.table.now)
-            kept.old.items }
+        requires cut { AreCut (is_before self.now.order.now) self.now.mode (epoch_at epochs.now)
+            (edges_of_table self.now.table.now) kept.old.items }
+        requires certified { NoneFallsAmong (rank_of_epoch ranks.now) (epoch_at epochs.now)
+            (edges_of_table self.now.table.now) kept.old.items }
         ensures { GoesOnSeeking self.now kept.old.items kept.new.items }
     {
+        if !kept[i] {
+            return;
+        }
         let edge = &self.table[i].0;
-        let held = ranks.rank(edge.held, edge.held_mode);
-        let wanted = ranks.least(edge.wanted, edge.wanted_mode);
-        if held != wanted {
+        let epoch = epochs.epoch(i);
+        if held_rank(ranks, epoch, edge) != wanted_rank(ranks, epoch, edge) {
             kept[i] = false;
         }
     }
 
-    /// Leaves out edges that lie on no loop of those that are kept. What it takes is that of [`edges_on_loops`], and as many
-    /// look-ups once more.
+    // Leaves out edges that lie on no loop of those of their epochs that are kept.
+    fn leave_out_off_loops_of(
+        &self,
+        alloc: Global,
+        epochs: &Epochs,
+        kept: &mut Vec<bool>,
+    ) -> Result<(), Memory>
+        requires kept { KeepsSought self.now kept.old.items }
+        requires cut { AreCut (is_before self.now.order.now) self.now.mode (epoch_at epochs.now)
+            (edges_of_table self.now.table.now) kept.old.items }
+        ensures { OnOk result (GoesOnSeeking self.now kept.old.items kept.new.items) }
+    {
+        let ranks = ranks_of_epochs(alloc, self.table, kept, epochs)?;
+        if !self.none_falls(&ranks, epochs, kept) {
+            return Ok(());
+        }
+        for i in 0..self.table.len() {
+            self.leave_out_if_rising(&ranks, epochs, kept, i);
+        }
+        Ok(())
+    }
+
+    /// Leaves out edges that lie on no loop of those that are kept, of the same epoch where there are some. What it takes is
+    /// that of [`edges_on_loops`] and of [epochs](Sought::epochs), and as many look-ups once more.
     pub(crate) fn leave_out_off_loops(
         &self,
         alloc: Global,
@@ -111,13 +148,23 @@ impl Sought<'_> {
         requires { KeepsSought self.now kept.old.items }
         ensures { OnOk result (GoesOnSeeking self.now kept.old.items kept.new.items) }
     {
-        let ranks = ranks_of(alloc, self.table, kept)?;
-        if !self.none_falls(&ranks, kept) {
+        let epochs = self.epochs(alloc, kept)?;
+        self.leave_out_off_loops_of(alloc, &epochs, kept)
+    }
+
+    /// The same, but only where there are some epochs.
+    pub(crate) fn leave_out_by_epochs(
+        &self,
+        alloc: Global,
+        kept: &mut Vec<bool>,
+    ) -> Result<(), Memory>
+        requires { KeepsSought self.now kept.old.items }
+        ensures { OnOk result (GoesOnSeeking self.now kept.old.items kept.new.items) }
+    {
+        let epochs = self.epochs(alloc, kept)?;
+        if epochs.count < 2 {
             return Ok(());
         }
-        for i in 0..self.table.len() {
-            self.leave_out_if_rising(&ranks, kept, i);
-        }
-        Ok(())
+        self.leave_out_off_loops_of(alloc, &epochs, kept)
     }
 }

@@ -35,6 +35,13 @@ impl Numbers {
         Ok(Numbers { by_lock })
     }
 
+    /// No lock has a number.
+    pub(crate) fn none(alloc: Global) -> Numbers {
+        Numbers {
+            by_lock: HashMap::new(alloc),
+        }
+    }
+
     /// How many locks have a number.
     pub(crate) fn count(&self) -> usize {
         self.by_lock.len()
@@ -74,8 +81,8 @@ impl Numbers {
     }
 }
 
-/// The number of a lock, which is the next one where it had none.
-pub(crate) fn number_of(
+// The number of a lock, which is the next one where it had none.
+fn number_of(
     numbers: &mut HashMap<LockId, usize>,
     lock: LockId,
 ) -> Result<usize, Memory> {

@@ -5,12 +5,15 @@
 //! exclusively. So each lock has two ranks, one for each mode in which it is held. They number the strongly
 //! connected components of the graph of holders, so that along all other edges they rise. But only what a check
 //! finds counts.
+//!
+//! Where a run has epochs, locks have ranks of their own in each.
 ghost use Rattle.std.specs.Prelude.{◌≡◌};
-ghost use Rattle.gl_pruning.specs.bodies.Loops.{least};
-ghost use Rattle.gl_pruning.specs.bodies.Ranks.{rank_in, shared_rank_in};
+ghost use Rattle.gl_pruning.specs.bodies.Loops.{least, held_rank, wanted_rank};
+ghost use Rattle.gl_pruning.specs.bodies.Ranks.{rank_in, shared_rank_in, rank_of_epoch};
 
 use crate::components::{Step, components};
-use crate::numbers::{Numbers, number_of};
+use crate::epochs::Epochs;
+use crate::numbers::Numbers;
 use gl_edges::{Edge, Sample};
 use gl_event::{LockId, LockMode, Memory};
 use std::alloc::Global;
@@ -58,24 +61,105 @@ impl Ranks {
     }
 }
 
-/// The ranks for the edges of a table that are kept: those that have no flag, or whose flag is set. Two look-ups for each
-/// edge, two for each lock, and one step of two walks for each edge, or two where there are readers.
-pub(crate) fn ranks_of(
+/// By the ranks of its epoch, the rank of the edge's thread.
+pub(crate) fn held_rank(ranks: &[Ranks], epoch: usize, edge: &Edge) -> usize
+    ensures { result ≡ held_rank (rank_of_epoch ranks.now epoch) edge.now }
+{
+    match ranks.get(epoch) {
+        Some(ranks) => ranks.rank(edge.held, edge.held_mode),
+        None => 0,
+    }
+}
+
+/// By the ranks of its epoch, the least of those for whom the edge's thread waits.
+pub(crate) fn wanted_rank(ranks: &[Ranks], epoch: usize, edge: &Edge) -> usize
+    ensures { result ≡ wanted_rank (rank_of_epoch ranks.now epoch) edge.now }
+{
+    match ranks.get(epoch) {
+        Some(ranks) => ranks.least(edge.wanted, edge.wanted_mode),
+        None => 0,
+    }
+}
+
+/// The ranks for all edges of a table, whichever epochs they are of.
+pub(crate) fn ranks_of(alloc: Global, table: &[(Edge, Sample)]) -> Result<Ranks, Memory> {
+    let mut ranks = ranks_of_epochs(alloc, table, &[], &Epochs::one(alloc))?;
+    match ranks.pop() {
+        Some(ranks) => Ok(ranks),
+        None => Ok(Ranks {
+            exclusive: Numbers::none(alloc),
+            shared: None,
+        }),
+    }
+}
+
+/// For each epoch the ranks for its edges that are kept: those that have no flag, or whose flag is set. Two look-ups for
+/// each edge, two for each lock of an epoch, and one step of two walks for each edge, or two where there are readers.
+pub(crate) fn ranks_of_epochs(
     alloc: Global,
     table: &[(Edge, Sample)],
     kept: &[bool],
-) -> Result<Ranks, Memory> {
-    let mut numbers = HashMap::new(alloc);
+    epochs: &Epochs,
+) -> Result<Vec<Ranks>, Memory> {
+    let mut numbering = Numbering::of(alloc, epochs.count)?;
     let has_readers = has_readers(table);
-    let steps = number_locks(alloc, table, kept, has_readers, &mut numbers)?;
-    let found = components(alloc, place_of(numbers.len(), LockMode::Exclusive), &steps)?;
+    let steps = number_locks(alloc, table, kept, epochs, has_readers, &mut numbering)?;
+    let places = place_of(numbering.count, LockMode::Exclusive);
+    let found = components(alloc, places, &steps)?;
+    let mut ranks = Vec::with_capacity(alloc, numbering.by_epoch.len())?;
+    for numbers in numbering.by_epoch.iter() {
+        ranks.push(ranks_by(alloc, numbers, has_readers, &found)?)?;
+    }
+    Ok(ranks)
+}
+
+// What was found for the locks of an epoch.
+fn ranks_by(
+    alloc: Global,
+    numbers: &HashMap<LockId, usize>,
+    has_readers: bool,
+    found: &[Option<usize>],
+) -> Result<Ranks, Memory> {
     let shared = if has_readers {
-        Some(ranked(alloc, &numbers, LockMode::Shared, &found)?)
+        Some(ranked(alloc, numbers, LockMode::Shared, found)?)
     } else {
         None
     };
-    let exclusive = ranked(alloc, &numbers, LockMode::Exclusive, &found)?;
+    let exclusive = ranked(alloc, numbers, LockMode::Exclusive, found)?;
     Ok(Ranks { exclusive, shared })
+}
+
+// Numbers of the locks of each epoch, from 0 through all epochs.
+#[derive(Drop)]
+struct Numbering {
+    by_epoch: Vec<HashMap<LockId, usize>>,
+    // how many locks have one
+    count: usize,
+}
+
+impl Numbering {
+    // No lock of so many epochs has a number yet.
+    fn of(alloc: Global, epochs: usize) -> Result<Numbering, Memory> {
+        let mut by_epoch = Vec::with_capacity(alloc, epochs)?;
+        for _epoch in 0..epochs {
+            by_epoch.push(HashMap::new(alloc))?;
+        }
+        Ok(Numbering { by_epoch, count: 0 })
+    }
+
+    // The number of a lock in an epoch, which is the next one where it had none.
+    fn number(&mut self, epoch: usize, lock: LockId) -> Result<usize, Memory> {
+        let Some(numbers) = self.by_epoch.get_mut(epoch) else {
+            return Ok(0);
+        };
+        if let Some(number) = numbers.get(&lock) {
+            return Ok(*number);
+        }
+        let number = self.count;
+        numbers.insert(lock, number)?;
+        self.count = number.saturating_add(1);
+        Ok(number)
+    }
 }
 
 // Whether an edge holds or wants a lock as a reader.
@@ -97,21 +181,23 @@ fn place_of(number: usize, mode: LockMode) -> usize {
     }
 }
 
-// Numbers the locks of the edges that are kept from 0, and gives the steps from holders to those for whom they wait.
+// Numbers the locks of the edges that are kept, in each epoch, and gives the steps from holders to those for whom they wait.
 fn number_locks(
     alloc: Global,
     table: &[(Edge, Sample)],
     kept: &[bool],
+    epochs: &Epochs,
     has_readers: bool,
-    numbers: &mut HashMap<LockId, usize>,
+    numbering: &mut Numbering,
 ) -> Result<Vec<Step>, Memory> {
     let mut steps = Vec::new(alloc);
     for (i, (edge, _)) in table.iter().enumerate() {
         if kept.get(i) == Some(&false) {
             continue;
         }
-        let from = place_of(number_of(numbers, edge.held)?, edge.held_mode);
-        let wanted = number_of(numbers, edge.wanted)?;
+        let epoch = epochs.epoch(i);
+        let from = place_of(numbering.number(epoch, edge.held)?, edge.held_mode);
+        let wanted = numbering.number(epoch, edge.wanted)?;
         add_step(&mut steps, from, place_of(wanted, LockMode::Exclusive))?;
         if has_readers && edge.wanted_mode == LockMode::Exclusive {
             add_step(&mut steps, from, place_of(wanted, LockMode::Shared))?;

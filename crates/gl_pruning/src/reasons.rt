@@ -66,6 +66,7 @@ impl Sought<'_> {
             (λ kept. LeavesOutAlone (edges_of_table self.now.table.now) [] kept.items) }
     {
         let mut kept = self.on_loops(alloc)?;
+        self.leave_out_by_epochs(alloc, &mut kept)?;
         self.leave_out_alone(alloc, &mut kept)?;
         Ok(kept)
     }

@@ -20,11 +20,11 @@ wanted_rank rank e = least rank e.wanted e.wanted_mode
 abbrev pub NoneFalls : (ℕ → LockMode → ℕ) → List Edge → Type 0
 NoneFalls rank edges = All (λ e. held_rank rank e ≤ wanted_rank rank e) edges
 
--- no edge that isn't left out does
-abbrev pub NoneFallsAmong : (ℕ → LockMode → ℕ) → List Edge → List Bool → Type 0
-NoneFallsAmong rank edges kept =
+-- no edge that isn't left out does, by the ranks of its epoch
+abbrev pub NoneFallsAmong : (ℕ → ℕ → LockMode → ℕ) → (ℕ → ℕ) → List Edge → List Bool → Type 0
+NoneFallsAmong rank epoch edges kept =
     (i : ℕ) (e : Edge) → slice_get edges i ≡ Some e → ¬ (slice_get kept i ≡ Some false)
-    → held_rank rank e ≤ wanted_rank rank e
+    → held_rank (rank (epoch i)) e ≤ wanted_rank (rank (epoch i)) e
 
 -- the edge waits for one of its own rank
 abbrev pub is_level : (ℕ → LockMode → ℕ) → Edge → Bool

@@ -1,5 +1,5 @@
 -- Ranks of those who hold locks.
-use Rattle.std.specs.Prelude.{ℕ, Option, Some, None}
+use Rattle.std.specs.Prelude.{ℕ, List, Option, Some, None, slice_get}
 use Rattle.gl_event.specs.declared.events.LockMode.{LockMode}
 use Rattle.gl_event.specs.declared.events.LockMode.TheVariants.{Exclusive, Shared}
 use Rattle.gl_pruning.specs.declared.numbers.Numbers.{Numbers}
@@ -19,3 +19,11 @@ shared_rank_in ranks lock = number_in_either ranks.shared ranks.exclusive lock
 abbrev pub rank_in : Ranks → ℕ → LockMode → ℕ
 rank_in ranks lock Exclusive = number_in ranks.exclusive lock
 rank_in ranks lock Shared = shared_rank_in ranks lock
+
+-- the same by the ranks of an epoch, if it has some
+abbrev pub rank_by : Option Ranks → ℕ → LockMode → ℕ
+rank_by (Some ranks) lock mode = rank_in ranks lock mode
+rank_by None lock mode = 0
+
+abbrev pub rank_of_epoch : List Ranks → ℕ → ℕ → LockMode → ℕ
+rank_of_epoch ranks epoch lock mode = rank_by (slice_get ranks epoch) lock mode

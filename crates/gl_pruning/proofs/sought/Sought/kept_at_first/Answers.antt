@@ -3,8 +3,8 @@ use Rattle.gl_filters.specs.Picked.{edges_of_table}
 use Rattle.gl_pruning.proofs.Lone.{left_out_later, stay_from_none}
 use Rattle.gl_pruning.proofs.sought.Sought.kept_at_first.Goals as goal
 
--- what is alone among all edges is so among those that lie on a loop
+-- what is alone among all edges is so among those that were kept before
 pub returns-clause-alone : goal.returns-clause-alone
 returns-clause-alone c =
-    let kept = c.in_ok-kept.kept.items in
+    let kept = c.leave_out_by_epochs.new.kept.items in
     left_out_later (edges_of_table c.args.self.now.table.now) [] kept c.leave_out_alone.new.kept.items (stay_from_none kept) c.in_ok-leave_out_alone.ensures.alone

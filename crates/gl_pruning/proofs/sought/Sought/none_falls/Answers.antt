@@ -1,24 +1,29 @@
-use Rattle.std.proofs.Common.{◌≤◌, Some, false, sym, ap, subst, ◌∙◌, arith}
+use Rattle.std.proofs.Common.{◌≤◌, Some, false, get_or, sym, ap, subst, ◌∙◌, arith}
 use Rattle.std.proofs.lemmas.List.{length-map}
 use Rattle.std.proofs.lemmas.Option.{slice_get-get_or, slice_get_within}
 use Rattle.gl_filters.specs.Picked.{edges_of_table}
+use Rattle.gl_pruning.specs.bodies.Epochs.{epoch_at}
 use Rattle.gl_pruning.specs.bodies.Loops.{held_rank, wanted_rank}
-use Rattle.gl_pruning.specs.bodies.Ranks.{rank_in}
+use Rattle.gl_pruning.specs.bodies.Ranks.{rank_of_epoch}
 use Rattle.gl_pruning.proofs.ByKinds.{edge_is}
-use Rattle.gl_pruning.proofs.Off.{none_falls_more}
+use Rattle.gl_pruning.proofs.Rising.{none_falls_more}
 use Rattle.gl_pruning.proofs.sought.Sought.none_falls.Goals as goal
 use Rattle.gl_pruning.proofs.sought.Sought.none_falls.Goals.{else-kept-i-via-then-kept-i+else-held-wanted, else-kept-i-via-else-kept-i}
 
 pub loop-i-preserved : goal.loop-i-preserved
 loop-i-preserved c =
     let table = c.args.self.now.table.now in
-    let rank = rank_in c.args.ranks.now in
-    none_falls_more (edges_of_table table) c.args.kept.now rank c.loop-i.i c.loop-i.invariant
+    let rank = rank_of_epoch c.args.ranks.now in
+    let epoch = epoch_at c.args.epochs.now in
+    let here = (get_or table c.loop-i.i c.index-self-i.result).0 in
+    none_falls_more (edges_of_table table) c.args.kept.now rank epoch c.loop-i.i c.loop-i.invariant
     (λ e at stays.
     let same = edge_is table c.index-self-i.result c.loop-i.i e c.loop-i-test.true at in
-    subst (λ d. held_rank rank d ≤ wanted_rank rank d) (sym same)
+    let held = c.held_rank-held.ensures ∙ ap (λ n. held_rank (rank n) here) c.epoch-epoch.ensures in
+    let wanted = c.wanted_rank-wanted.ensures ∙ ap (λ n. wanted_rank (rank n) here) c.epoch-epoch.ensures in
+    subst (λ d. held_rank (rank (epoch c.loop-i.i)) d ≤ wanted_rank (rank (epoch c.loop-i.i)) d) (sym same)
     (elim c.else-kept-i.branch [
-      | else-kept-i-via-then-kept-i+else-held-wanted w ↦ omega (arith, w.if-held-wanted.false, c.rank-held.ensures, c.least-wanted.ensures)
+      | else-kept-i-via-then-kept-i+else-held-wanted w ↦ omega (arith, w.if-held-wanted.false, held, wanted)
       | else-kept-i-via-else-kept-i w ↦ absurd (stays (slice_get-get_or c.args.kept.now c.loop-i.i false (omega (arith, c.loop-i-test.true, c.requires)) ∙ ap Some w.if-kept-i.false))
     ]))
 

@@ -1,5 +1,5 @@
 use Rattle.gl_pruning.specs.Sought.{GoesOnSeeking}
-use Rattle.gl_pruning.proofs.sought.Sought.leave_out_off_loops.Given as goal
+use Rattle.gl_pruning.proofs.sought.Sought.leave_out_off_loops_of.Given as goal
 
 -- so far only edges that are in no cycle were left out, and none came back
 abbrev pub invariant-loop-i : goal.invariant-loop-i

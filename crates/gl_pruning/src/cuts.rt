@@ -1,0 +1,201 @@
+//! The search for cuts of a run, before which all edges are over when those behind it begin.
+//!
+//! Groups of edges are put in one after the other. A group is added to the epochs that are neither over before it
+//! begins nor begin after it is over, and these become one; where there are none, it is an epoch of its own.
+//! Nothing of this is proved, and nothing relies on it but for speed: epochs are checked. So a number that is out
+//! of range, which none is, is passed over.
+use crate::epochs::{Epochs, Group};
+use crate::reasons::count_set;
+use crate::sought::Sought;
+use gl_edges::Edge;
+use gl_event::{Memory, ThreadId};
+use gl_filters::Mode;
+use std::alloc::Global;
+use std::collections::HashMap;
+
+// How many pairs of groups are looked at for each edge that is kept.
+const PAIRS_OF_EDGE: usize = 16;
+
+// So many pairs are looked at however few edges there are, and no more than so many however many there are.
+const FEW_PAIRS: usize = 100_000;
+const MOST_PAIRS: usize = 16_000_000;
+
+// Whether it would take too long to look at each two of so many groups, of so many edges.
+fn are_too_many(groups: usize, edges: usize) -> bool {
+    let most = edges.saturating_mul(PAIRS_OF_EDGE).max(FEW_PAIRS);
+    groups.saturating_mul(groups) > most.min(MOST_PAIRS)
+}
+
+// Groups, and where they stand by their threads and first segments.
+#[derive(Drop)]
+struct Grouping {
+    groups: Vec<Group>,
+    places: HashMap<(ThreadId, u32), usize>,
+    // where the one stands that was last found
+    last: usize,
+}
+
+impl Grouping {
+    // Whether the group that was last found is the edge's.
+    fn is_last(&self, edge: &Edge) -> bool {
+        match self.groups.get(self.last) {
+            Some(group) => group.thread == edge.thread && group.first == edge.first,
+            None => false,
+        }
+    }
+
+    // Finds the edge's group, or makes it.
+    fn find(&mut self, edge: &Edge) -> Result<(), Memory> {
+        let begin = (edge.thread, edge.first);
+        if let Some(&place) = self.places.get(&begin) {
+            self.last = place;
+            return Ok(());
+        }
+        self.last = self.groups.len();
+        self.places.insert(begin, self.last)?;
+        self.groups.push(Group {
+            thread: edge.thread,
+            first: edge.first,
+            last: edge.second,
+            epoch: 0,
+        })?;
+        Ok(())
+    }
+
+    // Puts an edge into its group, and gives where that stands.
+    fn put(&mut self, edge: &Edge) -> Result<usize, Memory> {
+        if !self.is_last(edge) {
+            self.find(edge)?;
+        }
+        if let Some(group) = self.groups.get_mut(self.last) {
+            group.last = group.last.max(edge.second);
+        }
+        Ok(self.last)
+    }
+}
+
+// Adds a group to the parts from the first one to the end, which become one, or as a part of its own where there are none.
+fn add(
+    alloc: Global,
+    parts: &mut Vec<Vec<usize>>,
+    first: usize,
+    end: usize,
+    place: usize,
+) -> Result<(), Memory> {
+    if first >= end {
+        let mut part = Vec::new(alloc);
+        part.push(place)?;
+        parts.insert(first.min(parts.len()), part)?;
+        return Ok(());
+    }
+    for _ in 1..end - first {
+        join(parts, first)?;
+    }
+    if let Some(part) = parts.get_mut(first) {
+        part.push(place)?;
+    }
+    Ok(())
+}
+
+// Makes one of two parts, this one and the next.
+fn join(parts: &mut Vec<Vec<usize>>, first: usize) -> Result<(), Memory> {
+    let next = first.saturating_add(1);
+    if next >= parts.len() {
+        return Ok(());
+    }
+    let mut more = parts.remove(next);
+    if let Some(part) = parts.get_mut(first) {
+        part.append(&mut more)?;
+    }
+    Ok(())
+}
+
+// Gives each group the number of its part.
+fn number(groups: &mut Vec<Group>, parts: &[Vec<usize>]) {
+    for (epoch, part) in parts.iter().enumerate() {
+        for &place in part {
+            if let Some(group) = groups.get_mut(place) {
+                group.epoch = epoch;
+            }
+        }
+    }
+}
+
+impl Sought<'_> {
+    /// Epochs of the edges that are kept, if there are more than one and they are soon found. It takes a look-up for each edge at
+    /// most, and one or a few for each group, or as many as there are groups where there are cuts.
+    pub(crate) fn cut(&self, alloc: Global, kept: &[bool]) -> Result<Epochs, Memory> {
+        if self.mode != Mode::Full {
+            return Ok(Epochs::one(alloc));
+        }
+        let mut epochs = self.grouped(alloc, kept)?;
+        if are_too_many(epochs.groups.len(), count_set(kept)) {
+            return Ok(Epochs::one(alloc));
+        }
+        let parts = self.parts(alloc, &epochs.groups)?;
+        if parts.len() < 2 {
+            return Ok(Epochs::one(alloc));
+        }
+        number(&mut epochs.groups, &parts);
+        epochs.count = parts.len();
+        Ok(epochs)
+    }
+
+    // The edges that are kept in groups, all of one epoch.
+    fn grouped(&self, alloc: Global, kept: &[bool]) -> Result<Epochs, Memory> {
+        let mut places = Vec::with_capacity(alloc, self.table.len())?;
+        let mut grouping = Grouping {
+            groups: Vec::new(alloc),
+            places: HashMap::new(alloc),
+            last: 0,
+        };
+        for ((edge, _), &is_kept) in self.table.iter().zip(kept) {
+            let place = if is_kept { grouping.put(edge)? } else { 0 };
+            places.push(place)?;
+        }
+        Ok(Epochs {
+            groups: grouping.groups,
+            places,
+            count: 1,
+        })
+    }
+
+    // The groups in parts, each of which is over before the next one begins.
+    fn parts(&self, alloc: Global, groups: &[Group]) -> Result<Vec<Vec<usize>>, Memory> {
+        let mut parts: Vec<Vec<usize>> = Vec::new(alloc);
+        for (place, group) in groups.iter().enumerate() {
+            let first = parts
+                .as_slice()
+                .partition_point(|part: &Vec<usize>| self.is_past(groups, part, group));
+            let end = parts
+                .as_slice()
+                .partition_point(|part: &Vec<usize>| !self.is_to_come(groups, part, group));
+            add(alloc, &mut parts, first, end, place)?;
+        }
+        Ok(parts)
+    }
+
+    // Whether a part is over before a group begins. The group that was added last is looked at first: most often it isn't.
+    fn is_past(&self, groups: &[Group], part: &[usize], group: &Group) -> bool {
+        for &place in part.iter().rev() {
+            if let Some(other) = groups.get(place) {
+                if !self.is_over_before(other, group) {
+                    return false;
+                }
+            }
+        }
+        true
+    }
+
+    // Whether a group is over before a part begins.
+    fn is_to_come(&self, groups: &[Group], part: &[usize], group: &Group) -> bool {
+        for &place in part.iter().rev() {
+            if let Some(other) = groups.get(place) {
+                if !self.is_over_before(group, other) {
+                    return false;
+                }
+            }
+        }
+        true
+    }
+}
