@@ -532,7 +532,7 @@ class Tests:
     def busy(self, name, compiler, standard, *words):
         """goodlock.hpp where more is recorded than can be pulled, and while the session ends."""
         c = [f"-std={standard}", *STRICT, "-Wconversion", "-Wshadow", f"-I{HEADERS}", *words]
-        wraps = ["-Wl,--wrap=goodlock_pull", "-Wl,--wrap=goodlock_pull_lane"]
+        wraps = [f"-Wl,--wrap={name}" for name in ("goodlock_pull", "goodlock_pull_lane", "nanosleep")]
         output = f"busy_{re.sub('[^a-z0-9]', '_', name)}"
         environment = {**os.environ, "TSAN_OPTIONS": "detect_deadlocks=0"}
         if self.build(output, compiler, *c, HERE / "busy.cc", ARCHIVE, *wraps, "-lpthread"):
