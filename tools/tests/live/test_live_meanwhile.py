@@ -56,14 +56,15 @@ def test_more_cycles_than_are_listed():
 
 
 def test_lines_that_cannot_be_written():
-    """It is said once, and what is told on standard error is told all the same."""
-    live = Live("./locks", "deadlock").is_ready()
-    os.mkdir("r.json.lines")
+    """It is said once, and what is told on standard error is told all the same. A shell that becomes the program makes a folder of the
+    file's name before."""
+    live = Live("sh", "-c", "mkdir r.json.$$.1.lines && exec ./locks deadlock").is_ready()
     live.wait_for_words(" hangs: ")
     live.process.send_signal(signal.SIGUSR1)
     time.sleep(1)
     said = live.says()
-    assert said.count("no line: r.json.lines: File exists\n") == 1 and said.count("1 cycle so far") == 1, said
+    fault = "no line: r.json.%d.1.lines: File exists\n" % live.program
+    assert said.count(fault) == 1 and said.count("1 cycle so far") == 1, said
     os.kill(live.program, signal.SIGKILL)
     live.end(status=128 + signal.SIGKILL)
 

@@ -2,6 +2,7 @@
  * tools/tests/live. */
 #define _GNU_SOURCE
 #include <pthread.h>
+#include <semaphore.h>
 #include <signal.h>
 #include <stdio.h>
 #include <stdlib.h>
@@ -175,8 +176,16 @@ static void owner_died(void)
         pthread_join(threads[i], NULL);
 }
 
-/* Two threads wait for each other, and when a line is read a third one waits for the first one's lock. With an argument another one waits
- * for a thread that has ended before. */
+static sem_t others_wait;
+
+static void *waits_later(void *unused)
+{
+    sem_wait(&others_wait);
+    return short_lived(unused);
+}
+
+/* Two threads wait for each other, and when a line is read a third one waits for the first one's lock. With an argument another one, which
+ * is older than they are, waits for a thread that has ended before; it does so once they wait. */
 static void hangs(void)
 {
     char line[16];
@@ -184,12 +193,13 @@ static void hangs(void)
     if (number) {
         pthread_create(&threads[0], NULL, keeps, &gate);
         pthread_join(threads[0], NULL);
-        pthread_create(&threads[0], NULL, short_lived, NULL);
-        wait_for_others();
+        pthread_create(&threads[0], NULL, waits_later, NULL);
     }
     pthread_barrier_init(&each_holds_one, NULL, 2);
     for (long i = 0; i < 2; i++)
         pthread_create(&threads[i], NULL, holds, (void *)i);
+    wait_for_others();
+    sem_post(&others_wait);
     say_ready();
     if (fgets(line, sizeof line, stdin))
         pthread_create(&threads[2], NULL, other_way, NULL);
