@@ -108,7 +108,7 @@ class Crate:
 
     # Where it is one of those: until each of them has begun, and half a second more, in which a further one would begin.
     def stays(self, beside):
-        end = time.monotonic() + 50
+        end = time.monotonic() + 60
         while self.name in beside and time.monotonic() < end:
             with open(os.environ["CALLS"]) as calls:
                 begun = [line.split()[0] for line in calls]
@@ -196,7 +196,7 @@ class Clone:
             folders = self.without_rt(folders)
         own = {"CLONE": str(self.top), "UNPROVED": unproved, "BUILT": str(built), "MADE": str(self.tools / "made")}
         done = subprocess.run(
-            [called, *words], cwd=folder or self.top, input=text, capture_output=True, text=True, timeout=60,
+            [called, *words], cwd=folder or self.top, input=text, capture_output=True, text=True, timeout=300,
             env={"PATH": ":".join(folders), "CALLS": str(self.calls), **own, **settings},
         )  # fmt: skip
         return done.stdout, done.stderr, done.returncode, self.calls.read_text().splitlines()

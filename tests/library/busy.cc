@@ -20,7 +20,9 @@
 #include <unistd.h>
 
 static goodlock::detail::world &world = goodlock::detail::world::get();
+static const std::thread::id main_thread = std::this_thread::get_id();
 static std::atomic<uint64_t> notes{0}, late_notes{0}, pulls{0}; // late: once recording has stopped
+static std::atomic<uint64_t> early_pulls{0};                    // the main thread's, while threads record
 static std::atomic<uint64_t> last_note{UINT64_MAX};             // after which is_over is set
 static std::atomic<unsigned> feigned{0};                        // so many pulls find what isn't there
 static std::atomic<bool> is_blind{false}, is_slow{false}, is_over{false};
@@ -50,13 +52,13 @@ static pid_t own_number()
     return static_cast<pid_t>(syscall(SYS_gettid));
 }
 
-// Whether the thread sleeps, or has ended.
-static bool is_asleep(pid_t thread)
+// As the system tells it: R where the thread runs or could, S where it sleeps, and X where it has ended.
+static char state_of(pid_t thread)
 {
     std::ifstream file("/proc/self/task/" + std::to_string(thread) + "/stat");
     const std::string text{std::istreambuf_iterator<char>(file), {}};
     const std::size_t name_end = text.rfind(')');
-    return name_end == std::string::npos || text.find_first_of("SZX", name_end) == name_end + 2;
+    return name_end == std::string::npos ? 'X' : text[name_end + 2];
 }
 
 static void wait_until(bool is_asked(), const char *what)
@@ -67,14 +69,14 @@ static void wait_until(bool is_asked(), const char *what)
     check(is_asked(), what);
 }
 
-// A pull that finds what isn't there: its thread doesn't sleep then.
+// A pull that finds what isn't there, so much that its thread gives the mutex up, and doesn't sleep.
 static uint32_t feign_a_pull(goodlock_pulled *pulled)
 {
     const auto end = std::chrono::steady_clock::now() + std::chrono::microseconds(20);
     while (std::chrono::steady_clock::now() < end)
         ;
     feigned--;
-    pulled->events = 1;
+    pulled->events = 4096;
     return GOODLOCK_OK;
 }
 
@@ -84,7 +86,7 @@ static void hold()
 {
     for (; is_held; std::this_thread::yield()) {
         is_holding = true;
-        is_held = asker == 0 || !is_asleep(asker);
+        is_held = asker == 0 || state_of(asker) != 'S';
     }
     is_holding = false;
 }
@@ -99,6 +101,7 @@ template <class F> static uint32_t pull_by(F pull, goodlock_pulled *pulled)
 {
     *pulled = {0, 0};
     pulls++;
+    early_pulls += std::this_thread::get_id() == main_thread && world.is_open();
     hold();
     if (feigned > 0)
         return feign_a_pull(pulled);
@@ -133,11 +136,11 @@ uint32_t __wrap_goodlock_pull_lane(goodlock_session *session, uint32_t thread, u
 
 int __real_nanosleep(const timespec *time, timespec *rest);
 
-// However late the system lets the asker run.
+// However late the system lets the asker run: until it has the mutex, or has ended.
 int __wrap_nanosleep(const timespec *time, timespec *rest)
 {
     const auto end = std::chrono::steady_clock::now() + std::chrono::seconds(60);
-    while (is_patient && asker != 0 && std::chrono::steady_clock::now() < end)
+    while (is_patient && asker != 0 && state_of(asker) != 'X' && std::chrono::steady_clock::now() < end)
         std::this_thread::yield();
     return __real_nanosleep(time, rest);
 }
@@ -220,7 +223,7 @@ static void asked()
 static void finish()
 {
     const uint32_t ring = 4096, lanes = BUSY + 1;
-    const uint64_t most = 5000000;
+    const uint64_t most = 1000000;
     std::atomic<uint32_t> running{0};
     std::vector<goodlock::thread> busy;
     check(goodlock::start(lanes + 3, ring) == GOODLOCK_OK, "start");
@@ -236,7 +239,8 @@ static void finish()
     is_slow = true;
     last_note = notes + most;
     const goodlock::result result = goodlock::finish();
-    check(!is_over, "finish() pulls as long as threads record");
+    check(!is_over, "finish() waits as long as threads record");
+    check(early_pulls == 0, "finish() pulls " + std::to_string(early_pulls) + " times while threads record");
     is_over = true;
     for (goodlock::thread &thread : busy)
         thread.join();
@@ -262,8 +266,8 @@ static void filled()
     check(result.cycles == 1, "another text:\n" + result.text);
 }
 
-// The collecting thread is held until a thread whose last turn was dropped has asked for the session's mutex: so it is
-// there before finish() has it.
+// The collecting thread is held until a thread whose last turn was dropped has asked for the session's mutex, and lets
+// it go first: so it is there before finish() has it. A lane is left to pull, that of another thread.
 static void dropped()
 {
     static std::atomic<pid_t> number{0};
@@ -276,9 +280,12 @@ static void dropped()
             return count < 2;
         });
     });
+    goodlock::thread([] { turns_while([](unsigned long count) { return count < 1; }); }).join();
     wait_until([] { return number != 0; }, "the thread doesn't record");
     asker = number.load();
     goodlock::detail::mine::finish();
+    is_patient = true;
+    feigned = 1;
     hold_the_next_pull();
     const goodlock::result result = goodlock::finish();
     thread.join();
