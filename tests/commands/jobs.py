@@ -65,7 +65,7 @@ def answer(program, words, path, rng):
     """What the program says, of the file or of a pipe that it comes through."""
     if rng.random() < 0.6:
         with open(path, "rb") as trace:
-            done = subprocess.run([program, *words], stdin=trace, capture_output=True, timeout=120)
+            done = subprocess.run([program, *words], stdin=trace, capture_output=True, timeout=300)
         return done.returncode, done.stdout, done.stderr
     with subprocess.Popen(
         [program, *words], stdin=subprocess.PIPE, stdout=subprocess.PIPE, stderr=subprocess.PIPE

@@ -102,11 +102,22 @@ class Crate:
         if self.name in os.environ["UNPROVED"].split():
             print("an open goal", file=self.out)
             return 1
-        if "SECONDS" in os.environ:
-            time.sleep(float(os.environ["SECONDS"]))
-            with open(os.environ["CALLS"], "a") as calls:
-                calls.write(f"end {self.name}\n")
+        if "BESIDE" in os.environ:
+            self.stays(os.environ["BESIDE"].split())
         return 0
+
+    # Where it is one of those: until each of them has begun, and half a second more, in which a further one would begin.
+    def stays(self, beside):
+        end = time.monotonic() + 60
+        while self.name in beside and time.monotonic() < end:
+            with open(os.environ["CALLS"]) as calls:
+                begun = [line.split()[0] for line in calls]
+            if set(beside) <= set(begun):
+                break
+            time.sleep(0.01)
+        time.sleep(0.5)
+        with open(os.environ["CALLS"], "a") as calls:
+            calls.write(f"end {self.name}\n")
 
 
 def crates_below(top):
@@ -134,6 +145,14 @@ def stop_on_text(crate, verb):
 """
 
 
+# There is memory for all, whatever else this machine does.
+AMPLE = """
+
+def free_memory():
+    return 1 << 50
+"""
+
+
 class Clone:
     """A repository with ./goodlock, a few empty crates, a carried program, and the stand-in for the toolchain."""
 
@@ -145,6 +164,8 @@ class Clone:
         self.write("crates.txt", CRATES)
         (self.top / "tools").mkdir()
         shutil.copytree(TOP / "tools/gate", self.top / "tools/gate", ignore=shutil.ignore_patterns("__pycache__"))
+        with open(self.top / "tools/gate/toolchain.py", "a") as file:
+            file.write(AMPLE)
         shutil.copy(TOP / "goodlock", self.top / "goodlock")
         self.tools = folder / "bin"
         self.tools.mkdir()
@@ -175,7 +196,7 @@ class Clone:
             folders = self.without_rt(folders)
         own = {"CLONE": str(self.top), "UNPROVED": unproved, "BUILT": str(built), "MADE": str(self.tools / "made")}
         done = subprocess.run(
-            [called, *words], cwd=folder or self.top, input=text, capture_output=True, text=True, timeout=60,
+            [called, *words], cwd=folder or self.top, input=text, capture_output=True, text=True, timeout=300,
             env={"PATH": ":".join(folders), "CALLS": str(self.calls), **own, **settings},
         )  # fmt: skip
         return done.stdout, done.stderr, done.returncode, self.calls.read_text().splitlines()
@@ -236,10 +257,11 @@ def built_where_asked(clone):
 
 
 def processes_at_once(clone):
-    """Each crate has as many processes as there are jobs, and no more than twice as many run."""
+    """Each crate has as many processes as there are jobs, and no more than twice as many run: of three that stand on one
+    two begin, and wait for each other."""
     clone.write("crates.txt", CRATES.replace("goodlock:", "third: low\ngoodlock: third"))
     clone.write("crates/third/src/lib.rt", "fn f() {}\n")
-    calls = clone.run(*WORDS, GOODLOCK_BUILD="1", JOBS="2", SECONDS="0.5")[3]
+    calls = clone.run(*WORDS, GOODLOCK_BUILD="1", JOBS="2", BESIDE="middle twin")[3]
     equal((calls[:3], calls[-1]), (["share", "low --jobs 2", "end low"], "run"))
     equal(sorted(calls[3:5]), ["middle --jobs 2", "twin --jobs 2"])
     equal((calls[5][:3], calls.index("third --jobs 2") > 5), ("end", True))

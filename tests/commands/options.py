@@ -34,7 +34,7 @@ class Program:
         own = {**os.environ, "LD_PRELOAD": self.library, "COUNT_TO": str(tells)}
         with open(told) as reader:
             done = subprocess.run(
-                [self.path, *words.split()], input=trace, capture_output=True, env=own, pass_fds=[tells], timeout=60
+                [self.path, *words.split()], input=trace, capture_output=True, env=own, pass_fds=[tells], timeout=300
             )
             os.close(tells)
             line = reader.read()

@@ -35,7 +35,7 @@ SOURCE = pathlib.Path(__file__).resolve().parent / "refuse.c"
 OUT_OF_MEMORY = (b"", b"goodlock: out of memory\n", 3)
 READ_FAILED = (b"", b"goodlock: read failed\n", 4)
 UNCONFIRMED = (b"", b"goodlock: session not confirmed\n", 4)
-LIMIT = 20  # seconds for a run
+LIMIT = 120  # seconds for a run
 OVER_TIME = (b"", b"(nothing after %d seconds)" % LIMIT, None)
 WRITE_FAILED = b"goodlock: write failed\n"
 
@@ -367,7 +367,7 @@ class Tests:
             """A shell runs the program, to close its descriptors."""
             streams = {"stdin": subprocess.PIPE, "stdout": subprocess.PIPE, "stderr": subprocess.PIPE} | streams
             child = subprocess.Popen(["sh", "-c", command, "sh", self.runner.program, *given(words)], **streams)
-            out, err = child.communicate(text if streams["stdin"] == subprocess.PIPE else None, timeout=20)
+            out, err = child.communicate(text if streams["stdin"] == subprocess.PIPE else None, timeout=LIMIT)
             return Run((out or b"", err or b"", child.returncode), "")
 
         with tempfile.TemporaryDirectory() as folder:

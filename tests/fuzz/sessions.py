@@ -66,12 +66,12 @@ def pieces_of(random_, text):
 
 
 class Child:
-    """The program, with an input that stays open until the answer is asked for. It is ended after a minute."""
+    """The program, with an input that stays open until the answer is asked for. It is ended after five minutes."""
 
     def __init__(self, program, words, prepare=None):
         pipe = subprocess.PIPE
         self.child = subprocess.Popen([program, *words], stdin=pipe, stdout=pipe, stderr=pipe, preexec_fn=prepare)
-        self.timer = threading.Timer(60, self.child.kill)
+        self.timer = threading.Timer(300, self.child.kill)
         self.timer.start()
 
     def give(self, pieces):
@@ -107,7 +107,7 @@ class Child:
 
 
 def run(program, words, pieces, is_alone):
-    """The answer; on one core where it is alone. After a minute its status tells of a signal."""
+    """The answer; on one core where it is alone. After five minutes its status tells of a signal."""
 
     def prepare():
         os.sched_setaffinity(0, [min(os.sched_getaffinity(0))])
@@ -153,8 +153,8 @@ REFUSED = {
 
 
 def waits_for(is_so):
-    """Whether it is so within ten seconds."""
-    end = time.monotonic() + 10
+    """Whether it is so within a minute."""
+    end = time.monotonic() + 60
     while not is_so() and time.monotonic() < end:
         time.sleep(0.01)
     return is_so()
@@ -165,7 +165,7 @@ def open_inputs(program):
     for name, (words, text, answer) in REFUSED.items():
         child = Child(program, ["live", "--stream", *words])
         child.give([text])
-        yield f"{name}, refused before the input ends", True, child.ends(40)
+        yield f"{name}, refused before the input ends", True, child.ends(120)
         yield name, answer, child.answer()
     # The reader, a worker for each shard, and the collector.
     for shards in (1, 3):
@@ -184,7 +184,7 @@ def open_inputs(program):
     child = Child(program, ["live", "--stream", "--ring", "16"])
     giving = threading.Thread(target=child.give, args=[[LONG]])
     giving.start()
-    giving.join(40)
+    giving.join(120)
     yield "notes are taken off before the input ends", (False, False), (giving.is_alive(), child.ends(0))
     if giving.is_alive():
         child.child.kill()

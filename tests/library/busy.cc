@@ -13,13 +13,22 @@
 // failed.
 #include "checks.hpp"
 
+#include <fstream>
+#include <iterator>
 #include <sched.h>
+#include <sys/syscall.h>
+#include <unistd.h>
 
 static goodlock::detail::world &world = goodlock::detail::world::get();
+static const std::thread::id main_thread = std::this_thread::get_id();
 static std::atomic<uint64_t> notes{0}, late_notes{0}, pulls{0}; // late: once recording has stopped
+static std::atomic<uint64_t> early_pulls{0};                    // the main thread's, while threads record
 static std::atomic<uint64_t> last_note{UINT64_MAX};             // after which is_over is set
 static std::atomic<unsigned> feigned{0};                        // so many pulls find what isn't there
-static std::atomic<bool> is_blind{false}, is_slow{false}, is_held{false}, is_over{false};
+static std::atomic<bool> is_blind{false}, is_slow{false}, is_over{false};
+static std::atomic<pid_t> asker{0};                         // the thread that goes to ask for the session's mutex
+static std::atomic<bool> is_held{false}, is_holding{false}; // pulls, and whether there is one that is held
+static std::atomic<bool> is_patient{false};                 // who sleeps to let the asker go first
 
 constexpr uint32_t BUSY = 12, LAST = BUSY + 1; // threads, and the lane of the last one beside them and the main thread
 
@@ -38,6 +47,20 @@ static void count_look(uint32_t lane, uint32_t found)
         most_since = std::max(most_since, since[lane] += found);
 }
 
+static pid_t own_number()
+{
+    return static_cast<pid_t>(syscall(SYS_gettid));
+}
+
+// As the system tells it: R where the thread runs or could, S where it sleeps, and X where it has ended.
+static char state_of(pid_t thread)
+{
+    std::ifstream file("/proc/self/task/" + std::to_string(thread) + "/stat");
+    const std::string text{std::istreambuf_iterator<char>(file), {}};
+    const std::size_t name_end = text.rfind(')');
+    return name_end == std::string::npos ? 'X' : text[name_end + 2];
+}
+
 static void wait_until(bool is_asked(), const char *what)
 {
     const auto end = std::chrono::steady_clock::now() + std::chrono::seconds(60);
@@ -46,23 +69,40 @@ static void wait_until(bool is_asked(), const char *what)
     check(is_asked(), what);
 }
 
-// A pull that finds what isn't there: its thread doesn't sleep then.
+// A pull that finds what isn't there, so much that its thread gives the mutex up, and doesn't sleep.
 static uint32_t feign_a_pull(goodlock_pulled *pulled)
 {
     const auto end = std::chrono::steady_clock::now() + std::chrono::microseconds(20);
     while (std::chrono::steady_clock::now() < end)
         ;
     feigned--;
-    pulled->events = 1;
+    pulled->events = 4096;
     return GOODLOCK_OK;
+}
+
+// Who pulls has the session's mutex, so a pull that is held until the asker sleeps is there when that waits for the
+// mutex.
+static void hold()
+{
+    for (; is_held; std::this_thread::yield()) {
+        is_holding = true;
+        is_held = asker == 0 || state_of(asker) != 'S';
+    }
+    is_holding = false;
+}
+
+static void hold_the_next_pull()
+{
+    is_held = true;
+    wait_until([] { return is_holding.load(); }, "nobody pulls");
 }
 
 template <class F> static uint32_t pull_by(F pull, goodlock_pulled *pulled)
 {
     *pulled = {0, 0};
     pulls++;
-    while (is_held)
-        std::this_thread::yield();
+    early_pulls += std::this_thread::get_id() == main_thread && world.is_open();
+    hold();
     if (feigned > 0)
         return feign_a_pull(pulled);
     if (is_blind && world.is_open())
@@ -93,6 +133,17 @@ uint32_t __wrap_goodlock_pull_lane(goodlock_session *session, uint32_t thread, u
     count_look(thread, pulled->events + pulled->ended);
     return code;
 }
+
+int __real_nanosleep(const timespec *time, timespec *rest);
+
+// However late the system lets the asker run: until it has the mutex, or has ended.
+int __wrap_nanosleep(const timespec *time, timespec *rest)
+{
+    const auto end = std::chrono::steady_clock::now() + std::chrono::seconds(60);
+    while (is_patient && asker != 0 && state_of(asker) != 'X' && std::chrono::steady_clock::now() < end)
+        std::this_thread::yield();
+    return __real_nanosleep(time, rest);
+}
 }
 
 // Locks and unlocks a lock of its own as often as it may.
@@ -103,8 +154,8 @@ template <class F> static void turns_while(F may_go_on)
         goodlock::guard<goodlock::mutex> hold(own);
 }
 
-// Pulls take so long that lanes are always full. Between two looks at the lane of a thread that makes few turns, no more
-// than a ring is pulled off any other.
+// Pulls take so long that lanes are always full. Between two looks at the lane of a thread that makes few turns, no
+// more than a ring is pulled off any other.
 static void turns()
 {
     const uint32_t ring = 4096;
@@ -143,7 +194,8 @@ static void share_a_processor()
     check(sched_setscheduler(0, SCHED_BATCH, &none) == 0, "as a batch");
 }
 
-// Each time while the collecting thread, which always finds something, is in a pull.
+// Each time while the collecting thread, which always finds something, is in a pull. Those are counted that come while
+// this thread waits.
 static void asked()
 {
     const unsigned locks = 10, most = 20 * locks;
@@ -151,12 +203,13 @@ static void asked()
     share_a_processor();
     check(goodlock::start(1, 4 * locks) == GOODLOCK_OK, "start");
     feigned = 50 * most;
+    is_patient = true;
     for (unsigned i = 0; i < locks; i++) {
-        uint64_t before = pulls;
-        while (pulls == before && feigned > 0)
-            std::this_thread::yield();
-        before = pulls;
+        hold_the_next_pull();
+        const uint64_t before = pulls;
+        asker = own_number();
         turns_while([](unsigned long count) { return count < 1; });
+        asker = 0;
         taken += pulls - before;
     }
     feigned = 0;
@@ -170,7 +223,7 @@ static void asked()
 static void finish()
 {
     const uint32_t ring = 4096, lanes = BUSY + 1;
-    const uint64_t most = 500000;
+    const uint64_t most = 1000000;
     std::atomic<uint32_t> running{0};
     std::vector<goodlock::thread> busy;
     check(goodlock::start(lanes + 3, ring) == GOODLOCK_OK, "start");
@@ -186,7 +239,8 @@ static void finish()
     is_slow = true;
     last_note = notes + most;
     const goodlock::result result = goodlock::finish();
-    check(!is_over, "finish() pulls as long as threads record");
+    check(!is_over, "finish() waits as long as threads record");
+    check(early_pulls == 0, "finish() pulls " + std::to_string(early_pulls) + " times while threads record");
     is_over = true;
     for (goodlock::thread &thread : busy)
         thread.join();
@@ -212,33 +266,28 @@ static void filled()
     check(result.cycles == 1, "another text:\n" + result.text);
 }
 
-// The collecting thread is held until a thread whose last turn was dropped has asked for the session's mutex: so it is
-// there before finish() has it.
+// The collecting thread is held until a thread whose last turn was dropped has asked for the session's mutex, and lets
+// it go first: so it is there before finish() has it. A lane is left to pull, that of another thread.
 static void dropped()
 {
-    static std::atomic<bool> is_recorded{false}, is_done{false};
+    static std::atomic<pid_t> number{0};
     check(goodlock::start(4, 64) == GOODLOCK_OK, "start");
     goodlock::thread thread([] {
         turns_while([](unsigned long count) {
-            is_recorded = count == 1;
+            number = count == 1 ? own_number() : 0;
             while (count == 1 && world.is_open())
                 std::this_thread::yield();
             return count < 2;
         });
-        is_done = true;
     });
-    wait_until([] { return is_recorded.load(); }, "the thread doesn't record");
+    goodlock::thread([] { turns_while([](unsigned long count) { return count < 1; }); }).join();
+    wait_until([] { return number != 0; }, "the thread doesn't record");
+    asker = number.load();
     goodlock::detail::mine::finish();
-    is_held = true;
-    static const uint64_t before = pulls;
-    wait_until([] { return pulls > before; }, "nobody pulls");
-    std::thread release([] {
-        wait_until([] { return is_done.load(); }, "recording doesn't stop");
-        std::this_thread::sleep_for(std::chrono::milliseconds(50));
-        is_held = false;
-    });
+    is_patient = true;
+    feigned = 1;
+    hold_the_next_pull();
     const goodlock::result result = goodlock::finish();
-    release.join();
     thread.join();
     check(result.code == GOODLOCK_OK && !result.is_settled, "a report without what was dropped isn't settled");
 }

@@ -166,7 +166,7 @@ LEFT = (
 Done = collections.namedtuple("Done", "status output errors")
 
 
-def run(*command, seconds=120, **more):
+def run(*command, seconds=300, **more):
     """Status, output and errors, as texts. A run over its time has no status."""
     try:
         words = [str(word) for word in command]
@@ -416,7 +416,7 @@ class Tests:
         """The program's answer on a trace: output, errors and status. A session has the same trace with each driver, and
         for its last two reports: the program is asked once."""
         words = ["predict", "--mode", MODES[mode], "--len", length, "--max", most, *more]
-        done = subprocess.run([self.program, *map(str, words)], input=trace, capture_output=True, timeout=60)
+        done = subprocess.run([self.program, *map(str, words)], input=trace, capture_output=True, timeout=300)
         return done.stdout, done.stderr, done.returncode
 
     def compared(self, line, folder):
@@ -532,7 +532,7 @@ class Tests:
     def busy(self, name, compiler, standard, *words):
         """goodlock.hpp where more is recorded than can be pulled, and while the session ends."""
         c = [f"-std={standard}", *STRICT, "-Wconversion", "-Wshadow", f"-I{HEADERS}", *words]
-        wraps = ["-Wl,--wrap=goodlock_pull", "-Wl,--wrap=goodlock_pull_lane"]
+        wraps = [f"-Wl,--wrap={name}" for name in ("goodlock_pull", "goodlock_pull_lane", "nanosleep")]
         output = f"busy_{re.sub('[^a-z0-9]', '_', name)}"
         environment = {**os.environ, "TSAN_OPTIONS": "detect_deadlocks=0"}
         if self.build(output, compiler, *c, HERE / "busy.cc", ARCHIVE, *wraps, "-lpthread"):

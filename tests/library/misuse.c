@@ -15,13 +15,13 @@
 #include "goodlock.h"
 #include "refusing.h"
 
+#include <limits.h>
 #include <pthread.h>
 #include <sched.h>
 #include <stdio.h>
 #include <stdlib.h>
 #include <string.h>
 #include <sys/wait.h>
-#include <time.h>
 #include <unistd.h>
 
 /* Makes a call; where memory is refused in it, and it says so, once more with ample memory. */
@@ -947,13 +947,14 @@ static void one_fault(void)
 
 /* ---- Leaving in mid-course */
 
-enum { LONG_RING = 16384, FORKS = 5, FORK_SECONDS = 60 };
+enum { LONG_RING = 16384, FORKS = 5 };
 
 /* A thread that records while the main thread forks or pulls. */
 struct beside {
     goodlock_lane *lane;
     _Atomic bool is_over;
     _Atomic unsigned recorded, full, wrong; /* full: how often its lane had no room */
+    _Atomic unsigned most;                  /* it waits when it has recorded so many, until this grows or all is over */
 };
 
 /* Acquires b and then a, again and again, and closes its lane in the end. */
@@ -965,6 +966,8 @@ static void *record_beside(void *argument)
     uint32_t code, at;
     while (!beside->is_over)
         for (int i = 0; i < 4; i++) {
+            while (beside->recorded >= beside->most && !beside->is_over)
+                sched_yield();
             while ((code = goodlock_record(beside->lane, steps[i][0], steps[i][1], steps[i][2], &at)) ==
                    GOODLOCK_FULL) {
                 beside->full++;
@@ -987,38 +990,30 @@ static goodlock_pulled pull_once(goodlock_session *session)
     return pulled;
 }
 
-/* Forks once; whether the other thread recorded meanwhile. */
-static bool fork_once(struct beside *beside)
+static struct beside *beside_forks; /* who records while the main thread forks */
+
+/* Within a fork, before the child is made and afterwards. There is room, as the lane was pulled off before the fork. */
+static void let_it_record(void)
 {
-    const unsigned before = beside->recorded;
+    const unsigned before = beside_forks->recorded;
+    beside_forks->most = before + LONG_RING / 4;
+    while (beside_forks->recorded == before)
+        sched_yield();
+}
+
+/* Forks some times, and the other thread records meanwhile; how many events were pulled before. */
+static unsigned fork_beside(goodlock_session *session)
+{
+    unsigned events = 0;
     int status = 0;
-    bool has_recorded;
-    const pid_t child = fork();
-    if (child == 0)
-        _exit(7);
-    has_recorded = beside->recorded > before;
-    check(waitpid(child, &status, 0) == child && WIFEXITED(status) && WEXITSTATUS(status) == 7, "the child leaves");
-    return has_recorded;
-}
-
-static time_t seconds(void)
-{
-    struct timespec now;
-    clock_gettime(CLOCK_MONOTONIC, &now);
-    return now.tv_sec;
-}
-
-/* Forks until the other thread has recorded meanwhile so many times; how many events were pulled before, so that there
- * is room. On one processor that takes some hundred forks: nothing but the end of its time makes this thread pause. */
-static unsigned fork_beside(goodlock_session *session, struct beside *beside)
-{
-    const time_t end = seconds() + FORK_SECONDS;
-    unsigned events = 0, beside_forks = 0;
-    while (beside_forks < FORKS && seconds() < end) {
+    check(pthread_atfork(let_it_record, let_it_record, NULL) == 0, "something is done within forks");
+    for (int i = 0; i < FORKS; i++) {
         events += pull_once(session).events;
-        beside_forks += fork_once(beside);
+        const pid_t child = fork();
+        if (child == 0)
+            _exit(7);
+        check(waitpid(child, &status, 0) == child && WIFEXITED(status) && WEXITSTATUS(status) == 7, "the child leaves");
     }
-    check(beside_forks == FORKS, "the other thread records while this one forks, five times within a minute");
     return events;
 }
 
@@ -1028,7 +1023,7 @@ static void in_a_child(void)
     goodlock_lane lanes[2];
     goodlock_report report = {NULL};
     goodlock_pulled pulled;
-    struct beside beside = {.lane = &lanes[1]};
+    struct beside beside = {.lane = &lanes[1], .most = 1};
     pthread_t thread;
     unsigned events;
     uint32_t at, ended = 0;
@@ -1038,7 +1033,8 @@ static void in_a_child(void)
     check(pthread_create(&thread, NULL, record_beside, &beside) == 0, "a thread is started");
     while (beside.recorded == 0)
         sched_yield();
-    events = fork_beside(&session, &beside);
+    beside_forks = &beside;
+    events = fork_beside(&session);
     release_two(&lanes[0], 1, 0);
     expect("close", goodlock_close(&lanes[0]), GOODLOCK_OK);
     beside.is_over = true;
@@ -1080,7 +1076,7 @@ static void beyond_a_ring(void)
     goodlock_session session;
     goodlock_lane lanes[2];
     goodlock_pulled pulled = {0, 0};
-    struct beside beside = {.lane = &lanes[1]};
+    struct beside beside = {.lane = &lanes[1], .most = UINT_MAX};
     pthread_t thread;
     unsigned events, wrong = 0;
     open_two(&session, lanes, LONG_RING);

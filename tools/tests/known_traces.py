@@ -170,10 +170,22 @@ def wait_until_all_wait(process):
     wait_for(hangs, "process %d to hang" % process)
 
 
-def ended(recorder, command, number=signal.SIGKILL, after=None):
-    """The lines of a program that a signal ended, and what the recorder said: when it hangs, or some time after it was ready."""
+def recorded_lines(recorder):
+    """How many lines the trace of what is recorded has so far."""
+    (directory,) = [name for name in os.listdir(".") if name.startswith("t.std.raw.")]
+    clear("so-far.std")
+    words = [recorder, "-o", "so-far.std", "--convert", directory]
+    subprocess.run(words, stderr=subprocess.DEVNULL, timeout=LIMIT)
+    return len(read_lines("so-far.std")) if os.path.exists("so-far.std") else 0
+
+
+def ended(recorder, command, number=signal.SIGKILL, after=None, lines=None):
+    """The lines of a program that a signal ended, and what the recorder said: when it hangs, some time after it was ready, or once so many
+    lines are recorded."""
     running, process = start(recorder, command)
-    if after is None:
+    if lines is not None:
+        wait_for(lambda: recorded_lines(recorder) >= lines, "%d lines" % lines)
+    elif after is None:
         wait_until_all_wait(process)
     else:
         time.sleep(after)
@@ -183,10 +195,9 @@ def ended(recorder, command, number=signal.SIGKILL, after=None):
     return read_lines("t.std"), said.decode()
 
 
-def killed(recorder, command, after=None):
-    """The lines of a program that was killed, when it hangs or some time after it was ready."""
-    lines, _ = ended(recorder, command, after=after)
-    return lines
+def killed(recorder, command, after=None, lines=None):
+    """The lines of a program that was killed, when it hangs, some time after it was ready, or once so many lines are recorded."""
+    return ended(recorder, command, after=after, lines=lines)[0]
 
 
 def cycles_in(lines):

@@ -7,7 +7,7 @@ import subprocess
 import sys
 
 from c_programs import RECORD, REFERENCE, TOOLS
-from known_traces import processes_in
+from known_traces import LIMIT, processes_in
 
 CONFIRM = os.path.join(TOOLS, "goodlock-confirm")
 VIEW = os.path.join(TOOLS, "goodlock-view")
@@ -18,7 +18,7 @@ TEMPORARY = "temporary"  # the folder for temporary files, in that of the test
 def predict(name, folder):
     """The path of the report on a run of this program, whose lists have a cycle however its threads come along."""
     trace = folder / f"{name}.std"
-    done = subprocess.run([RECORD, "-o", trace, "./cycles", name], cwd=folder, stderr=subprocess.PIPE, timeout=100)
+    done = subprocess.run([RECORD, "-o", trace, "./cycles", name], cwd=folder, stderr=subprocess.PIPE, timeout=LIMIT)
     assert done.returncode == 0, done.stderr.decode()
     with open(trace, "rb") as lines:
         found = subprocess.run([sys.executable, REFERENCE, "--json"], stdin=lines, stdout=subprocess.PIPE).stdout
@@ -29,7 +29,7 @@ def predict(name, folder):
 
 
 def run(arguments):
-    done = subprocess.run([CONFIRM] + arguments, stdout=subprocess.PIPE, stderr=subprocess.PIPE, timeout=100)
+    done = subprocess.run([CONFIRM] + arguments, stdout=subprocess.PIPE, stderr=subprocess.PIPE, timeout=LIMIT)
     return done.returncode, done.stdout.decode(), done.stderr.decode()
 
 

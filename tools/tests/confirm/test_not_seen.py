@@ -13,9 +13,9 @@ def test_mutex_that_another_thread_unlocks(predict):
 def test_wait_without_a_signal(predict):
     """The thread hangs in a wait that nobody ends: it doesn't wait for the lock."""
     status, out, said = run(
-        ["--tries", "1", "--seconds", "2", predict("wakes"), "--", "env", "ORDER=never", "./cycles", "wakes"]
+        ["--tries", "1", "--seconds", "6", predict("wakes"), "--", "env", "ORDER=never", "./cycles", "wakes"]
     )
-    assert status == NOT_SEEN and out == "not seen in 1 try, 2 runs ended after 2 seconds\n", "%d: %s%s" % (
+    assert status == NOT_SEEN and out == "not seen in 1 try, 2 runs ended after 6 seconds\n", "%d: %s%s" % (
         status,
         out,
         said,
@@ -35,6 +35,7 @@ def test_other_locks_at_the_same_places(predict):
 
 
 def test_program_that_never_ends(predict):
-    status, out, said = run(["--tries", "1", "--seconds", "1", predict("opposite"), "--", "sleep", "60"])
-    assert status == NOT_SEEN and out == "not seen in 1 try, 2 runs ended after 1 seconds\n", out + said
+    """A run takes so long that the program is there by then, and recorded."""
+    status, out, said = run(["--tries", "1", "--seconds", "6", predict("opposite"), "--", "sleep", "60"])
+    assert status == NOT_SEEN and out == "not seen in 1 try, 2 runs ended after 6 seconds\n", out + said
     assert "no run came to cycles.c:" in said, said

@@ -75,13 +75,15 @@ zpty -w shell 'bindkey "^I" complete-word; zstyle ":completion:*" verbose no; zs
 zpty -w shell 'echo rea''dy'
 zpty -r shell line '*ready*'
 zpty -w -n shell "$2"$'\t\t'
-text= rounds=0
-for ((at = 0; at < 200 && rounds < 5; at++)); do  # --help is offered everywhere: half a second more, and all is there
+text=
+for ((at = 0; at < 1000; at++)); do
+    [[ $text == *--help* ]] && break  # which is offered everywhere
     sleep 0.1
     while zpty -r -t shell line; do text+=$line; done
-    [[ $text == *--help* ]] && ((rounds += 1))
 done
-print -rn -- "$text"
+zpty -w shell $'\x15print -r en\\ded'  # in place of the line: what it says comes behind all that is offered
+zpty -r shell line '*ended*'
+print -rn -- "$text$line"
 zpty -d shell
 """
 

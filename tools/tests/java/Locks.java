@@ -7,6 +7,7 @@ import java.util.concurrent.CountDownLatch;
 import java.util.concurrent.ExecutorService;
 import java.util.concurrent.Executors;
 import java.util.concurrent.TimeUnit;
+import java.util.concurrent.atomic.AtomicIntegerArray;
 import java.util.concurrent.locks.Condition;
 import java.util.concurrent.locks.Lock;
 import java.util.concurrent.locks.ReadWriteLock;
@@ -640,8 +641,11 @@ public class Locks {
         }
     }
 
+    /** Runs until it is killed, and says so once each thread has made some turns. */
     static void busy() throws Exception {
-        for (int seed = 0; seed < 3; seed++) {
+        AtomicIntegerArray turns = new AtomicIntegerArray(3);
+        for (int i = 0; i < 3; i++) {
+            int seed = i;
             Random choose = new Random(seed);
             Thread thread = new Thread(() -> {
                 Object[] locks = new Object[12];
@@ -650,9 +654,15 @@ public class Locks {
                 }
                 while (true) {
                     nest(locks, choose, choose.nextInt(4) + 1);
+                    turns.incrementAndGet(seed);
                 }
             });
             thread.start();
+        }
+        for (int i = 0; i < 3; i++) {
+            while (turns.get(i) < 20) {
+                Thread.sleep(1);
+            }
         }
         System.out.println("ready " + ProcessHandle.current().pid());
     }

@@ -22,7 +22,7 @@ DEADLOCK = """
 
 
 def test_killed_in_a_deadlock():
-    lines = killed(JAVA_RECORD, program("deadlock"), 0.5)
+    lines = killed(JAVA_RECORD, program("deadlock"), lines=DEADLOCK.strip().count("\n") + 1)
     compare(lines, expand(DEADLOCK, MARKS))
     assert cycles_in(lines) == 1, "no cycle"
 

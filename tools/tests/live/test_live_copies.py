@@ -61,10 +61,10 @@ def test_copies_are_of_one_moment():
 
 def test_no_cycle_comes_of_a_look():
     """Opposite orders below a gate, at full speed: no report so far has a cycle."""
-    live = Live("./live", "gates", "1000000", options=["--every", "0.1"])
+    live = Live("./live", "gates_until_told", options=["--every", "0.1"]).is_ready()
+    wait_for(lambda: len(lines_of()) >= 15, "lines")
     live.end(status=0)
-    lines = lines_of()
-    assert len(lines) > 3 and not any(line["cycles"] for line in lines), "%d lines" % len(lines)
+    assert not any(line["cycles"] for line in lines_of()), "%d lines" % len(lines_of())
     assert read_report()["cycles"] == [] and len(read_report()["edges"]) == 2 * 2 * 21 * 20 // 2, "edges"
 
 

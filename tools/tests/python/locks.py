@@ -14,6 +14,7 @@ import subprocess
 import sys
 import tempfile
 import threading
+import time
 
 a = threading.Lock()  # @a
 b = threading.Lock()  # @b
@@ -41,6 +42,25 @@ def run_in_turn(*routines):
     turns[0].put(1)
     for thread in threads:
         thread.join()
+
+
+# Sends a process the signal once its first thread has slept at three looks one after the other.
+ALARM = r"""
+looks=0
+while [ $looks -lt 3 ] && state=$(sed -n 's/^State:[[:space:]]*//p' "/proc/$1/task/$1/status" 2>&1); do
+    case $state in
+        S*) looks=$((looks + 1)) ;;
+        *) looks=0 ;;
+    esac
+done
+kill -ALRM "$1"
+"""
+
+
+def alarm_once_it_waits():
+    """A signal comes when this thread waits for a lock: it sleeps nowhere else. From a process beside it, as a thread beside it
+    would have it wait for the interpreter."""
+    os.posix_spawn("/bin/sh", ["sh", "-c", ALARM, "sh", str(os.getpid())], os.environ)
 
 
 def both(first, second):
@@ -364,7 +384,8 @@ def waits_for_itself():
 
 @program
 def busy():
-    """Runs until it is killed."""
+    """Runs until it is killed, and says so once each thread has made some turns."""
+    turns = [0] * 3
 
     def work(seed):
         choose = random.Random(seed)
@@ -375,9 +396,12 @@ def busy():
                 lock.acquire()
             for lock in held:
                 lock.release()
+            turns[seed] += 1
 
     for seed in range(3):
         threading.Thread(target=work, args=(seed,), daemon=True).start()
+    while min(turns) < 20:
+        time.sleep(0.001)
     print("ready", os.getpid(), flush=True)
     threading.Event().wait()
 
@@ -387,7 +411,7 @@ def interrupted():
     """An acquire that a signal's exception ends is taken back."""
     signal.signal(signal.SIGALRM, lambda *_: 1 / 0)
     a.acquire()  # @interrupted_a
-    signal.setitimer(signal.ITIMER_REAL, 0.05)
+    alarm_once_it_waits()
     with b:  # @interrupted_b
         try:
             a.acquire()
@@ -416,7 +440,7 @@ def interrupted_by_a_handler_that_locks():
     signal.signal(signal.SIGALRM, handle)
     _thread.start_new_thread(hold, ())
     held.get()
-    signal.setitimer(signal.ITIMER_REAL, 0.05)
+    alarm_once_it_waits()
     for has_it in (False, True):
         try:
             with a:  # @handles_a
@@ -435,7 +459,7 @@ def interrupted_at_last():
     thread.start()
     thread.join()
     with a:  # @last_a
-        signal.setitimer(signal.ITIMER_REAL, 0.05)
+        alarm_once_it_waits()
         try:
             held_by_another.acquire()
         except ZeroDivisionError:

@@ -135,7 +135,7 @@ NO_FILES = """
 import os, resource, signal, sys, threading
 def set_limit(number):
     resource.setrlimit(resource.RLIMIT_NOFILE, (number, resource.getrlimit(resource.RLIMIT_NOFILE)[1]))
-signal.alarm(30)
+signal.alarm(170)
 """
 ALL_IS_LOST = """
 sys.modules["goodlock_files"].EXTENT_BYTES = 0  # the first file is full
@@ -151,7 +151,7 @@ def take():
 take()
 set_limit(3)
 child = os.fork()
-signal.alarm(30)
+signal.alarm(170)
 if child:
     sys.exit(os.waitstatus_to_exitcode(os.waitpid(child, 0)[1]))
 thread = threading.Thread(target=take)

@@ -176,16 +176,31 @@ static void wakes(void)
 
 /* A pool whose workers take tasks; two tasks have opposite orders. Workers in step would give all of them to one worker: so the
    one with the first such task keeps it until another one has the first task of the other order. By themselves workers come
-   into these tasks one after the other: one waits until no other is there, for a tenth of a second at the most, so that who holds
-   one of them up for longer has them meet. */
-static int next_task, is_taken;
+   into these tasks one after the other, however slow they are: one waits until no other is there, or until that one has gone to
+   sleep there ten times, so that who holds one of them up has them meet. */
+static int next_task;
+static long who_is_there; /* a thread's number, or 0 */
+
+static int comes_first(long own)
+{
+    long none = 0;
+    return __atomic_compare_exchange_n(&who_is_there, &none, own, 0, __ATOMIC_SEQ_CST, __ATOMIC_SEQ_CST);
+}
 
 static void both_in_turn(pthread_mutex_t *first, pthread_mutex_t *second)
 {
-    for (int looks = 0; looks < 100 && __atomic_exchange_n(&is_taken, 1, __ATOMIC_RELAXED); looks++)
+    long own = syscall(SYS_gettid), other = 0, sleeps = 0;
+    while (!comes_first(own)) {
+        long now = __atomic_load_n(&who_is_there, __ATOMIC_SEQ_CST);
+        if (now != other)
+            sleeps = sleeps_of(now);
+        else if (sleeps_of(now) >= sleeps + 10)
+            break;
+        other = now;
         usleep(1000);
+    }
     both(first, second);
-    __atomic_store_n(&is_taken, 0, __ATOMIC_RELAXED);
+    __atomic_compare_exchange_n(&who_is_there, &own, 0, 0, __ATOMIC_SEQ_CST, __ATOMIC_SEQ_CST);
 }
 
 static void *worker(void *unused)

@@ -2,6 +2,7 @@
  * tools/tests/live. */
 #define _GNU_SOURCE
 #include <pthread.h>
+#include <semaphore.h>
 #include <signal.h>
 #include <stdio.h>
 #include <stdlib.h>
@@ -175,8 +176,16 @@ static void owner_died(void)
         pthread_join(threads[i], NULL);
 }
 
-/* Two threads wait for each other, and when a line is read a third one waits for the first one's lock. With an argument another one waits
- * for a thread that has ended before. */
+static sem_t others_wait;
+
+static void *waits_later(void *unused)
+{
+    sem_wait(&others_wait);
+    return short_lived(unused);
+}
+
+/* Two threads wait for each other, and when a line is read a third one waits for the first one's lock. With an argument another one, which
+ * is older than they are, waits for a thread that has ended before; it does so once they wait. */
 static void hangs(void)
 {
     char line[16];
@@ -184,12 +193,13 @@ static void hangs(void)
     if (number) {
         pthread_create(&threads[0], NULL, keeps, &gate);
         pthread_join(threads[0], NULL);
-        pthread_create(&threads[0], NULL, short_lived, NULL);
-        wait_for_others();
+        pthread_create(&threads[0], NULL, waits_later, NULL);
     }
     pthread_barrier_init(&each_holds_one, NULL, 2);
     for (long i = 0; i < 2; i++)
         pthread_create(&threads[i], NULL, holds, (void *)i);
+    wait_for_others();
+    sem_post(&others_wait);
     say_ready();
     if (fgets(line, sizeof line, stdin))
         pthread_create(&threads[2], NULL, other_way, NULL);
@@ -402,15 +412,18 @@ enum { MANY = 20 };
 
 static pthread_mutex_t many[2][MANY];
 
+static int rounds[2]; /* that each thread has made */
+
 static void *gated(void *order)
 {
-    for (int i = 0; i < number; i++) {
+    for (int i = 0; i < __atomic_load_n(&number, __ATOMIC_RELAXED); i++) {
         pthread_mutex_lock(&gate);
         for (int j = 0; j < MANY; j++)
             pthread_mutex_lock(&many[i % 2][order ? j : MANY - 1 - j]);
         for (int j = 0; j < MANY; j++)
             pthread_mutex_unlock(&many[i % 2][order ? j : MANY - 1 - j]);
         pthread_mutex_unlock(&gate);
+        __atomic_store_n(&rounds[(long)order], i + 1, __ATOMIC_RELAXED);
     }
     return NULL;
 }
@@ -420,6 +433,25 @@ static void gates(void)
     pthread_t threads[2];
     for (long i = 0; i < 2; i++)
         pthread_create(&threads[i], NULL, gated, (void *)i);
+    for (int i = 0; i < 2; i++)
+        pthread_join(threads[i], NULL);
+}
+
+/* The same until standard input ends, from when each thread has taken some locks and the others. */
+static void gates_until_told(void)
+{
+    char line[16];
+    pthread_t threads[2];
+    number = 2000000000;
+    for (long i = 0; i < 2; i++)
+        pthread_create(&threads[i], NULL, gated, (void *)i);
+    for (int i = 0; i < 2; i++)
+        while (__atomic_load_n(&rounds[i], __ATOMIC_RELAXED) < 2)
+            usleep(1000);
+    say_ready();
+    while (fgets(line, sizeof line, stdin))
+        continue;
+    __atomic_store_n(&number, 0, __ATOMIC_RELAXED);
     for (int i = 0; i < 2; i++)
         pthread_join(threads[i], NULL);
 }
@@ -734,7 +766,7 @@ int main(int count, char **arguments)
         const char *name;
         void (*run)(void);
     } programs[] = {
-        {"waits", waits}, {"goes_on", goes_on}, {"comes_later", comes_later}, {"gates", gates}, {"churn", churn},
+        {"waits", waits}, {"goes_on", goes_on}, {"comes_later", comes_later}, {"gates", gates}, {"gates_until_told", gates_until_told}, {"churn", churn},
         {"own_signal", own_signal}, {"forks", forks}, {"repeats", repeats}, {"killed", killed}, {"races", races},
         {"hangs", hangs}, {"holder_ended", holder_ended}, {"owner_died", owner_died}, {"ring", ring}, {"deletes_itself", deletes_itself},
         {"inherits", inherits}, {"joins", joins}, {"joins_in_a_row", joins_in_a_row}, {"ends", ends}, {"child_ends", child_ends},

@@ -6,15 +6,28 @@
 #include <thread>
 #include <unistd.h>
 
+#include "turns.h"
+
 static pthread_mutex_t a = PTHREAD_MUTEX_INITIALIZER;
 static int initialisations;
 static int has_ended;
+static long first_number;
 
-// Until the first thread has come to its end, however slow the machine is; or for a fifth of a second, where somebody holds it up.
+static void begins()
+{
+    __atomic_store_n(&first_number, syscall(SYS_gettid), __ATOMIC_RELAXED);
+}
+
+// Until the first thread has come to its end, however slow the machine is; or until it has gone to sleep twenty times, where somebody
+// holds it up.
 static void wait_for_first()
 {
-    for (int looks = 0; looks < 200 && !__atomic_load_n(&has_ended, __ATOMIC_RELAXED); looks++)
+    while (!__atomic_load_n(&has_ended, __ATOMIC_RELAXED)) {
+        long number = __atomic_load_n(&first_number, __ATOMIC_RELAXED);
+        if (number != 0 && sleeps_of(number) >= 20)
+            break;
         usleep(1000);
+    }
 }
 
 struct Takes {
@@ -36,6 +49,7 @@ static int has_static()
 
 static void *initialises(void *)
 {
+    begins();
     has_static();
     __atomic_store_n(&has_ended, 1, __ATOMIC_RELAXED);
     return nullptr;
@@ -71,6 +85,7 @@ static void uses_a()
 
 static void *runs_routine(void *)
 {
+    begins();
     pthread_once(&control, uses_a);
     __atomic_store_n(&has_ended, 1, __ATOMIC_RELAXED);
     return nullptr;

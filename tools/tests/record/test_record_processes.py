@@ -200,18 +200,21 @@ def test_foreign_files_are_left_alone():
         stranger.wait()
 
 
+def is_pending(process, number):
+    """Whether a signal was sent to a process that it hasn't taken yet."""
+    with open("/proc/%d/status" % process) as file:
+        words = dict(line.split(":", 1) for line in file if ":" in line)
+    return int(words["ShdPnd"], 16) >> (number - 1) & 1 != 0
+
+
 def test_second_signal_leaves_what_runs():
+    """It is sent when the first one is taken: two that come at once count as one."""
     running, background = in_background(["sh", "-c", "trap '' HUP; ./locks waits_in_background"])
     assert b"waiting for process" in read_line(running.stderr), "it doesn't wait"
-
-    def leaves():
-        running.send_signal(signal.SIGHUP)
-        try:
-            return running.wait(0.3) is not None
-        except subprocess.TimeoutExpired:  # two that come at once count as one
-            return False
-
-    wait_for(leaves, "the recorder to leave what runs")
+    running.send_signal(signal.SIGHUP)
+    wait_for(lambda: not is_pending(running.pid, signal.SIGHUP), "the recorder to take the first signal")
+    assert running.poll() is None, "it leaves at the first signal"
+    running.send_signal(signal.SIGHUP)
     _, said = running.communicate(timeout=LIMIT)
     assert b"still running: process %d" % background in said, said.decode()
     assert not has_ended(background), "the process was ended"

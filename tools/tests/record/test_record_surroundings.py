@@ -97,8 +97,10 @@ def test_program_has_the_variables_of_who_asked(options):
 
 
 def test_signal_before_the_program_is_there():
-    """With --live it would ask for a report: there is none yet, and the recorder doesn't end by it."""
-    running = subprocess.Popen([RECORD, "--live", "./locks", "mutexes"], stderr=subprocess.PIPE)
+    """With --live it would ask for a report: there is none yet, and the recorder doesn't end by it. The program's child goes on until
+    its standard input ends, so the recorder is there until then."""
+    command = [RECORD, "--live", "./locks", "goes_to_background"]
+    running = subprocess.Popen(command, stdin=subprocess.PIPE, stderr=subprocess.PIPE)
 
     def is_python():
         with open("/proc/%d/cmdline" % running.pid, "rb") as file:

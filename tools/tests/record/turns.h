@@ -38,6 +38,20 @@ static inline int others_sleep(void)
     return all;
 }
 
+/* How often a thread of the process went to sleep so far. */
+static inline long sleeps_of(long thread)
+{
+    char path[300], line[400];
+    long sleeps = 0;
+    snprintf(path, sizeof path, "/proc/self/task/%ld/status", thread);
+    FILE *file = fopen(path, "r");
+    while (file && fgets(line, sizeof line, file))
+        sscanf(line, "voluntary_ctxt_switches: %ld", &sleeps);
+    if (file)
+        fclose(file);
+    return sleeps;
+}
+
 /* Until each other thread of the process has ended, or waits: however busy the machine is, it has come so far. */
 static inline void wait_for_others(void)
 {
