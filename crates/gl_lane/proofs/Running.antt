@@ -38,8 +38,8 @@ module _ (popped taken : ℕ) (run received : List Note) (are : AreTaken popped 
     pub one_more : without (rest (popped + 1) taken run) received ≡ without (rest popped taken run) received ++ get_or run popped d ∷ []
     one_more =
         subst (λ all. without (rest (popped + 1) taken run) all ≡ without (rest popped taken run) received ++ get_or run popped d ∷ [])
-            received_so
-            (without_end (without (rest popped taken run) received ++ get_or run popped d ∷ []) (rest (popped + 1) taken run))
+        received_so
+        (without_end (without (rest popped taken run) received ++ get_or run popped d ∷ []) (rest (popped + 1) taken run))
 
     all_placed : All IsPlaced (get_or run popped d ∷ rest (popped + 1) taken run)
     all_placed = subst (All IsPlaced) (rest_from popped taken run d more are.fit) are.placed
