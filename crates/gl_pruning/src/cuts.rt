@@ -14,10 +14,11 @@ use std::alloc::Global;
 use std::collections::HashMap;
 
 // How many pairs of groups are looked at for each edge that is kept.
-const PAIRS_OF_EDGE: usize = 16;
+const PAIRS_OF_EDGE: usize = 64;
 
 // So many pairs are looked at however few edges there are, and no more than so many however many there are.
-const FEW_PAIRS: usize = 100_000;
+const FEW_PAIRS: usize = 1_000_000;
+
 const MOST_PAIRS: usize = 16_000_000;
 
 // Whether it would take too long to look at each two of so many groups, of so many edges.

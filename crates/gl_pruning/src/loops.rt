@@ -91,13 +91,7 @@ impl Sought<'_> {
     }
 
     // Leaves out the edge at a position, if it waits for one of a higher rank, where none waits for one of a lower rank.
-    fn leave_out_if_rising(
-        &self,
-        ranks: &[Ranks],
-        epochs: &Epochs,
-        kept: &mut Vec<bool>,
-        i: usize,
-    )
+    fn leave_out_if_rising(&self, ranks: &[Ranks], epochs: &Epochs, kept: &mut Vec<bool>, i: usize)
         requires there { i < length self.now.table.now }
         requires kept { KeepsSought self.now kept.old.items }
         requires cut { AreCut (is_before self.now.order.now) self.now.mode (epoch_at epochs.now)

@@ -82,10 +82,7 @@ impl Numbers {
 }
 
 // The number of a lock, which is the next one where it had none.
-fn number_of(
-    numbers: &mut HashMap<LockId, usize>,
-    lock: LockId,
-) -> Result<usize, Memory> {
+fn number_of(numbers: &mut HashMap<LockId, usize>, lock: LockId) -> Result<usize, Memory> {
     if let Some(number) = numbers.get(&lock) {
         return Ok(*number);
     }
