@@ -13,12 +13,13 @@ use gl_filters::Mode;
 use std::alloc::Global;
 use std::collections::HashMap;
 
-// How many pairs of groups are looked at for each edge that is kept.
+// How many pairs of groups there may be for each edge that is kept.
 const PAIRS_OF_EDGE: usize = 64;
 
-// So many pairs are looked at however few edges there are, and no more than so many however many there are.
+// How many there may be however few edges there are: it takes some milliseconds.
 const FEW_PAIRS: usize = 1_000_000;
 
+// How many there may be at most.
 const MOST_PAIRS: usize = 16_000_000;
 
 // Whether it would take too long to look at each two of so many groups, of so many edges.
@@ -124,7 +125,8 @@ fn number(groups: &mut Vec<Group>, parts: &[Vec<usize>]) {
 
 impl Sought<'_> {
     /// Epochs of the edges that are kept, if there are more than one and they are soon found. It takes a look-up for each edge at
-    /// most, and one or a few for each group, or as many as there are groups where there are cuts.
+    /// most, and mostly a few for each group; where there are cuts as many as the group's epoch and its neighbours have groups,
+    /// a few times.
     pub(crate) fn cut(&self, alloc: Global, kept: &[bool]) -> Result<Epochs, Memory> {
         if self.mode != Mode::Full {
             return Ok(Epochs::one(alloc));
