@@ -16,7 +16,8 @@ begin_of group = record { thread = group.thread; index = group.first }
 
 -- the group of the edge at a position
 abbrev pub group_at : Epochs → ℕ → Option Group
-group_at epochs i = option_and_then (slice_get epochs.groups.items) (slice_get epochs.places.items i)
+group_at epochs i =
+    option_and_then (slice_get epochs.groups.items) (slice_get epochs.places.items i)
 
 -- the epoch of a group, and 0 where there is none
 abbrev pub epoch_of : Option Group → ℕ
