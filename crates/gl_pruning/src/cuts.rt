@@ -13,12 +13,13 @@ use gl_filters::Mode;
 use std::alloc::Global;
 use std::collections::HashMap;
 
-// How many pairs of groups are looked at for each edge that is kept.
-const PAIRS_OF_EDGE: usize = 16;
+// How many pairs of groups there may be for each edge that is kept.
+const PAIRS_OF_EDGE: usize = 64;
 
-// So many pairs are looked at however few edges there are, and no more than so many however many there are.
-const FEW_PAIRS: usize = 100_000;
+// How many there may be however few edges there are: it takes some milliseconds.
+const FEW_PAIRS: usize = 1_000_000;
 
+// How many there may be at most.
 const MOST_PAIRS: usize = 16_000_000;
 
 // Whether it would take too long to look at each two of so many groups, of so many edges.
@@ -75,48 +76,49 @@ impl Grouping {
     }
 }
 
-// Adds a group to the parts from the first one to the end, which become one, or as a part of its own where there are none.
+// Adds a group to the epochs from the first one to the end, which become one, or as an epoch of its own where there are none. The
+// groups of an epoch are told by where they stand.
 fn add(
     alloc: Global,
-    parts: &mut Vec<Vec<usize>>,
+    epochs: &mut Vec<Vec<usize>>,
     first: usize,
     end: usize,
     place: usize,
 ) -> Result<(), Memory> {
     if first >= end {
-        let mut part = Vec::new(alloc);
-        part.push(place)?;
-        parts.insert(first.min(parts.len()), part)?;
+        let mut epoch = Vec::new(alloc);
+        epoch.push(place)?;
+        epochs.insert(first.min(epochs.len()), epoch)?;
         return Ok(());
     }
     for _ in 1..end - first {
-        join(parts, first)?;
+        join(epochs, first)?;
     }
-    if let Some(part) = parts.get_mut(first) {
-        part.push(place)?;
+    if let Some(epoch) = epochs.get_mut(first) {
+        epoch.push(place)?;
     }
     Ok(())
 }
 
-// Makes one of two parts, this one and the next.
-fn join(parts: &mut Vec<Vec<usize>>, first: usize) -> Result<(), Memory> {
+// Makes one of two epochs, this one and the next.
+fn join(epochs: &mut Vec<Vec<usize>>, first: usize) -> Result<(), Memory> {
     let next = first.saturating_add(1);
-    if next >= parts.len() {
+    if next >= epochs.len() {
         return Ok(());
     }
-    let mut more = parts.remove(next);
-    if let Some(part) = parts.get_mut(first) {
-        part.append(&mut more)?;
+    let mut more = epochs.remove(next);
+    if let Some(epoch) = epochs.get_mut(first) {
+        epoch.append(&mut more)?;
     }
     Ok(())
 }
 
-// Gives each group the number of its part.
-fn number(groups: &mut Vec<Group>, parts: &[Vec<usize>]) {
-    for (epoch, part) in parts.iter().enumerate() {
-        for &place in part {
+// Gives each group the number of its epoch.
+fn number_groups(groups: &mut Vec<Group>, epochs: &[Vec<usize>]) {
+    for (number, epoch) in epochs.iter().enumerate() {
+        for &place in epoch {
             if let Some(group) = groups.get_mut(place) {
-                group.epoch = epoch;
+                group.epoch = number;
             }
         }
     }
@@ -124,22 +126,23 @@ fn number(groups: &mut Vec<Group>, parts: &[Vec<usize>]) {
 
 impl Sought<'_> {
     /// Epochs of the edges that are kept, if there are more than one and they are soon found. It takes a look-up for each edge at
-    /// most, and one or a few for each group, or as many as there are groups where there are cuts.
+    /// most, and mostly a few for each group; where there are cuts as many as the group's epoch and its neighbours have groups,
+    /// a few times.
     pub(crate) fn cut(&self, alloc: Global, kept: &[bool]) -> Result<Epochs, Memory> {
         if self.mode != Mode::Full {
             return Ok(Epochs::one(alloc));
         }
-        let mut epochs = self.grouped(alloc, kept)?;
-        if are_too_many(epochs.groups.len(), count_set(kept)) {
+        let mut grouped = self.grouped(alloc, kept)?;
+        if are_too_many(grouped.groups.len(), count_set(kept)) {
             return Ok(Epochs::one(alloc));
         }
-        let parts = self.parts(alloc, &epochs.groups)?;
-        if parts.len() < 2 {
+        let epochs = self.in_epochs(alloc, &grouped.groups)?;
+        if epochs.len() < 2 {
             return Ok(Epochs::one(alloc));
         }
-        number(&mut epochs.groups, &parts);
-        epochs.count = parts.len();
-        Ok(epochs)
+        number_groups(&mut grouped.groups, &epochs);
+        grouped.count = epochs.len();
+        Ok(grouped)
     }
 
     // The edges that are kept in groups, all of one epoch.
@@ -161,24 +164,24 @@ impl Sought<'_> {
         })
     }
 
-    // The groups in parts, each of which is over before the next one begins.
-    fn parts(&self, alloc: Global, groups: &[Group]) -> Result<Vec<Vec<usize>>, Memory> {
-        let mut parts: Vec<Vec<usize>> = Vec::new(alloc);
+    // The places of the groups of each epoch, each of which is over before the next one begins.
+    fn in_epochs(&self, alloc: Global, groups: &[Group]) -> Result<Vec<Vec<usize>>, Memory> {
+        let mut epochs: Vec<Vec<usize>> = Vec::new(alloc);
         for (place, group) in groups.iter().enumerate() {
-            let first = parts
+            let first = epochs
                 .as_slice()
-                .partition_point(|part: &Vec<usize>| self.is_past(groups, part, group));
-            let end = parts
-                .as_slice()
-                .partition_point(|part: &Vec<usize>| !self.is_to_come(groups, part, group));
-            add(alloc, &mut parts, first, end, place)?;
+                .partition_point(|epoch: &Vec<usize>| self.is_past(groups, epoch, group));
+            let end = epochs.as_slice().partition_point(|epoch: &Vec<usize>| !self.is_to_come(
+                groups, epoch, group,
+            ));
+            add(alloc, &mut epochs, first, end, place)?;
         }
-        Ok(parts)
+        Ok(epochs)
     }
 
-    // Whether a part is over before a group begins. The group that was added last is looked at first: most often it isn't.
-    fn is_past(&self, groups: &[Group], part: &[usize], group: &Group) -> bool {
-        for &place in part.iter().rev() {
+    // Whether an epoch is over before a group begins. The group that was added last is looked at first: most often it isn't.
+    fn is_past(&self, groups: &[Group], epoch: &[usize], group: &Group) -> bool {
+        for &place in epoch.iter().rev() {
             if let Some(other) = groups.get(place) {
                 if !self.is_over_before(other, group) {
                     return false;
@@ -188,9 +191,9 @@ impl Sought<'_> {
         true
     }
 
-    // Whether a group is over before a part begins.
-    fn is_to_come(&self, groups: &[Group], part: &[usize], group: &Group) -> bool {
-        for &place in part.iter().rev() {
+    // Whether a group is over before an epoch begins.
+    fn is_to_come(&self, groups: &[Group], epoch: &[usize], group: &Group) -> bool {
+        for &place in epoch.iter().rev() {
             if let Some(other) = groups.get(place) {
                 if !self.is_over_before(group, other) {
                     return false;

@@ -171,7 +171,8 @@ impl Sought<'_> {
         true
     }
 
-    /// Epochs of the edges that are kept: one, unless the mode asks for the order and more are soon found.
+    /// Epochs of the edges that are kept: one, unless the mode asks for the order and more are soon found. Then it takes a look-up
+    /// for each two groups of different epochs.
     pub(crate) fn epochs(&self, alloc: Global, kept: &[bool]) -> Result<Epochs, Memory>
         requires { length kept.now ≡ length self.now.table.now }
         ensures { IfOk result

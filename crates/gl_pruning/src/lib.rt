@@ -1,13 +1,14 @@
 //! Pruning: which edges a search for cycles may leave out.
 //!
 //! An edge may be left out where it is in no cycle. Some edges lie on no loop of the lock-order graph,
-//! which is seen by ranks of locks that fall along no edge: round a loop they stay the same. Others are
+//! which is seen by ranks of locks that fall along no edge: round a loop they stay the same. Others lie on no loop
+//! of their own epoch, where forks and joins cut a run into epochs: no cycle goes through two of these. Others are
 //! alone among edges of their own thread: no edge of another thread holds the lock that such an edge wants,
 //! or none wants the one that it holds. Others are stuck: none of the edges that are kept may follow such an
 //! edge in a cycle, or none may lead it. Others have no way back: from the lock that such an edge wants no
 //! walk of edges that go with it leads to the lock that it holds. And where edges are alike, no round of
 //! kinds may go on from theirs. Where some were left out, ranks are made anew for those that stay. How ranks,
-//! ways and kinds are found is not proved; what is found is checked.
+//! epochs, ways and kinds are found is not proved; what is found is checked.
 //!
 //! [`edges_sought`] leaves out all that is seen to be in no cycle. A search for which that is too dear at
 //! first takes a [`Sought`] and leaves out edges [on its way](Sought::leave_out_in_turn), with as much

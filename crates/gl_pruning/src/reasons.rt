@@ -1,7 +1,7 @@
 //! Why edges are left out, and in which order.
 //!
-//! The edges that lie on no loop are the first, since they are soon found, and then those that are alone
-//! among edges of their own thread. The others are left out for one reason after the other, the cheaper ones
+//! The edges that lie on no loop are the first, since they are soon found, then those that lie on none of their
+//! epoch where a run has some, and then those that are alone among edges of their own thread. The others are left out for one reason after the other, the cheaper ones
 //! first: those beside which none may stand; by kind, since there may be many edges of each kind; those that have
 //! no way back; by kind and thread; and single ones by their segments. Where some are, others may lie on no loop any more.
 ghost use Rattle.std.specs.Prelude.{◌≡◌, ◌∷◌, [], IfOk, OnOk, count_by};
@@ -56,8 +56,8 @@ pub(crate) fn reasons() -> [Reason; 5]
 }
 
 impl Sought<'_> {
-    /// Which edges stay by what is soon seen: they lie on a loop, as far as ranks of locks tell, and edges of
-    /// other threads hold the lock that they want and want the one that they hold. For each a flag.
+    /// Which edges stay by what is soon seen: they lie on a loop of their epoch, as far as ranks of locks tell, and edges
+    /// of other threads hold the lock that they want and want the one that they hold. For each a flag.
     ///
     /// Err where memory was refused.
     pub fn kept_at_first(&self, alloc: Global) -> Result<Vec<bool>, Memory>

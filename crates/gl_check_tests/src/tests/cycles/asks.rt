@@ -23,6 +23,8 @@ pub(super) enum Ask {
     Sought(Mode, u32, &'static [bool]),
     // how many may
     Count(Mode, u32, usize),
+    // how many edges of the mode are kept at first
+    AtFirst(Mode, usize),
     // how many edges a cycle of the mode can have, of at most so many, as far as threads and gate locks tell
     Longest(Mode, u32, usize),
     // which edges trimming keeps in the mode, and which it removes, in this order
@@ -44,6 +46,7 @@ pub(super) fn answers<R: Threads + Sync>(rt: &R, alloc: Global, known: &Known, a
         Ask::Parallel(max, wanted, more) => finds_parallel(rt, alloc, known, max, wanted, more),
         Ask::Sought(mode, len, wanted) => is_sought(rt, alloc, known, (mode, len), wanted),
         Ask::Count(mode, len, wanted) => is_count(rt, alloc, known, (mode, len), wanted),
+        Ask::AtFirst(mode, wanted) => count_at_first(alloc, known, mode) == Some(wanted),
         Ask::Longest(mode, len, wanted) => longest(alloc, known, (mode, len)) == Some(wanted),
         Ask::Trimmed(mode, kept, removed) => is_trimmed(alloc, known, mode, kept, removed),
         Ask::OnLoops(wanted) => is_on_loops(alloc, known, wanted),
@@ -147,6 +150,14 @@ fn is_by_parts<R: Threads + Sync>(
         Some(flags) => flags.as_slice() == wanted,
         None => false,
     }
+}
+
+// How many edges are kept at first.
+fn count_at_first(alloc: Global, known: &Known, mode: Mode) -> Option<usize> {
+    let query = query_for((mode, 4, 1))?;
+    let sought = Sought::of(&known.edges, &known.order, &query);
+    let kept = sought.kept_at_first(alloc).ok()?;
+    Some(count_set(&kept))
 }
 
 // How many edges a cycle can have.

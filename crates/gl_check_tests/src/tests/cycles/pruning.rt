@@ -88,8 +88,9 @@ const CASES: &[Case] = &[
             Ask::Longest(Mode::Full, 16, 2),
         ],
     },
-    // Three threads, each of which ends before the next one begins, take two locks in both orders. Two of them hold
-    // the same lock; and by the order of their segments a cycle has one edge of all three.
+    // Three threads, each of which ends before the next one begins, take three locks round, and one beside them all takes
+    // two of them the other way. Of two edges one lock is held; and by the order of their segments a cycle has one edge of
+    // the three threads, and one of the other.
     Case {
         name: "threads_in_turn",
         lists: Told(&[
@@ -102,17 +103,19 @@ const CASES: &[Case] = &[
                 Join(3, 2),
             ],
             &[Acq(0, 1), Acq(1, 2)],
+            &[Acq(1, 1), Acq(2, 2)],
+            &[Acq(2, 1), Acq(0, 2)],
             &[Acq(1, 1), Acq(0, 2)],
-            &[Acq(0, 1), Acq(1, 2)],
         ]),
         asks: &[
-            Ask::Longest(Mode::Basic, 4, 3),
-            Ask::Longest(Mode::Guarded, 4, 2),
-            Ask::Longest(Mode::Full, 4, 1),
-            Ask::Count(Mode::Full, 4, 0),
+            Ask::Longest(Mode::Basic, 8, 4),
+            Ask::Longest(Mode::Guarded, 8, 3),
+            Ask::Longest(Mode::Full, 8, 2),
+            Ask::All(Mode::Guarded, 4, &[&[0, 1, 2], &[0, 3]]),
+            Ask::All(Mode::Full, 4, &[&[0, 3]]),
         ],
     },
-    // Two of them are there at once.
+    // Of three threads two are there at once.
     Case {
         name: "threads_in_turn, but two",
         lists: Told(&[
@@ -152,6 +155,70 @@ const CASES: &[Case] = &[
             Ask::Longest(Mode::Full, 4, 2),
             Ask::All(Mode::Full, 4, &[&[1, 2]]),
         ],
+    },
+    // Two threads take two locks, and two others that are forked once both are joined take them the other way round. So each
+    // edge lies on a loop, but on none of its own epoch.
+    Case {
+        name: "epochs",
+        lists: Told(&[
+            &[
+                Fork(1, 1),
+                Fork(2, 1),
+                Join(1, 2),
+                Join(2, 2),
+                Fork(3, 1),
+                Fork(4, 1),
+            ],
+            &[Acq(0, 1), Acq(1, 2)],
+            &[Acq(0, 1), Acq(1, 2)],
+            &[Acq(1, 1), Acq(0, 2)],
+            &[Acq(1, 1), Acq(0, 2)],
+        ]),
+        asks: &[Ask::AtFirst(Mode::Guarded, 4), Ask::AtFirst(Mode::Full, 0)],
+    },
+    // One of the first two is joined later, and may run beside the others: no cut is between them.
+    Case {
+        name: "epochs, but one thread lasts",
+        lists: Told(&[
+            &[
+                Fork(1, 1),
+                Fork(2, 1),
+                Join(1, 2),
+                Fork(3, 1),
+                Fork(4, 1),
+                Join(2, 2),
+            ],
+            &[Acq(0, 1), Acq(1, 2)],
+            &[Acq(0, 1), Acq(1, 2)],
+            &[Acq(1, 1), Acq(0, 2)],
+            &[Acq(1, 1), Acq(0, 2)],
+        ]),
+        asks: &[
+            Ask::AtFirst(Mode::Full, 4),
+            Ask::All(Mode::Full, 4, &[&[1, 2], &[1, 3]]),
+        ],
+    },
+    // The thread that forks two others takes the locks before that, and again after it joined them: it has edges in the
+    // first and in the last of three epochs.
+    Case {
+        name: "epochs of one thread",
+        lists: Told(&[
+            &[
+                Acq(0, 1),
+                Acq(1, 2),
+                Rel(1, 3),
+                Rel(0, 3),
+                Fork(1, 4),
+                Fork(2, 4),
+                Join(1, 5),
+                Join(2, 5),
+                Acq(0, 6),
+                Acq(1, 7),
+            ],
+            &[Acq(1, 1), Acq(0, 2)],
+            &[Acq(1, 1), Acq(0, 2)],
+        ]),
+        asks: &[Ask::AtFirst(Mode::Guarded, 4), Ask::AtFirst(Mode::Full, 0)],
     },
     // From the first piece no way leads back past the one across, and so none does from any other. The
     // pieces between can be run under so many choices of gate locks, of which each leaves others across,
