@@ -8,9 +8,9 @@
 //     library_busy dropped    a thread of whose events one is dropped ends before the report is made
 //     library_busy late       a thread begins after finish()
 //
-// Calls that pull go through this file, by the linker's --wrap: time is counted in notes and in pulls, so that slow
-// machines and busy ones see the same. What isn't as it has to be is told; the last line is how many checks passed and
-// failed.
+// Calls that pull and nanosleep go through this file, by the linker's --wrap: time is counted in notes and in pulls, so
+// that slow machines and busy ones see the same. What isn't as it has to be is told; the last line is how many checks
+// passed and failed.
 #include "checks.hpp"
 
 #include <fstream>
