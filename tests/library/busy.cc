@@ -86,7 +86,8 @@ static void hold()
 {
     for (; is_held; std::this_thread::yield()) {
         is_holding = true;
-        is_held = asker == 0 || state_of(asker) != 'S';
+        const char state = asker == 0 ? 'R' : state_of(asker);
+        is_held = state != 'S' && state != 'X';
     }
     is_holding = false;
 }
