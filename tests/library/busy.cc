@@ -8,9 +8,9 @@
 //     library_busy dropped    a thread of whose events one is dropped ends before the report is made
 //     library_busy late       a thread begins after finish()
 //
-// Calls that pull go through this file, by the linker's --wrap: time is counted in notes and in pulls, so that slow
-// machines and busy ones see the same. What isn't as it has to be is told; the last line is how many checks passed and
-// failed.
+// Calls that pull and nanosleep go through this file, by the linker's --wrap: time is counted in notes and in pulls, so
+// that slow machines and busy ones see the same. What isn't as it has to be is told; the last line is how many checks
+// passed and failed.
 #include "checks.hpp"
 
 #include <fstream>
@@ -86,7 +86,8 @@ static void hold()
 {
     for (; is_held; std::this_thread::yield()) {
         is_holding = true;
-        is_held = asker == 0 || state_of(asker) != 'S';
+        const char state = asker == 0 ? 'R' : state_of(asker);
+        is_held = state != 'S' && state != 'X';
     }
     is_holding = false;
 }

@@ -13,6 +13,7 @@ CONFIRM = os.path.join(TOOLS, "goodlock-confirm")
 VIEW = os.path.join(TOOLS, "goodlock-view")
 NOT_SEEN, DEADLOCKED, ERROR = 0, 1, 125
 TEMPORARY = "temporary"  # the folder for temporary files, in that of the test
+PATIENTLY = ["--tries", "20", "--seconds", "%d" % LIMIT]  # for machines on which threads come late
 
 
 def predict(name, folder):
@@ -29,14 +30,14 @@ def predict(name, folder):
 
 
 def run(arguments):
-    done = subprocess.run([CONFIRM] + arguments, stdout=subprocess.PIPE, stderr=subprocess.PIPE, timeout=LIMIT)
+    done = subprocess.run([CONFIRM] + arguments, stdout=subprocess.PIPE, stderr=subprocess.PIPE, timeout=10 * LIMIT)
     return done.returncode, done.stdout.decode(), done.stderr.decode()
 
 
 def deadlocks(predict, name, threads):
-    status, out, said = run([predict(name), "--", "./cycles", name])
+    status, out, said = run([*PATIENTLY, predict(name), "--", "./cycles", name])
     assert status == DEADLOCKED, "status %d: %s%s" % (status, out, said)
-    assert re.match(r"deadlocked in try [1-5]\n", out), out
+    assert re.match(r"deadlocked in try \d+\n", out), out
     steps = re.findall(r"^  (\S+) holds (\S+) since (\S+) and waits for (\S+) at (\S+)$", out, re.MULTILINE)
     assert len(steps) == threads, out
     for i, (_, held, _, _, _) in enumerate(steps):
@@ -46,7 +47,7 @@ def deadlocks(predict, name, threads):
 
 
 def false_alarm(predict, name):
-    status, out, said = run(["--tries", "2", predict(name), "--", "./cycles", name])
+    status, out, said = run([*PATIENTLY, "--tries", "2", predict(name), "--", "./cycles", name])
     assert status == NOT_SEEN and out == "not seen in 2 tries\n", "status %d: %s%s" % (status, out, said)
 
 

@@ -3,7 +3,7 @@
 import re
 
 from c_programs import MARKS
-from confirming import DEADLOCKED, deadlocks, run
+from confirming import DEADLOCKED, PATIENTLY, deadlocks, run
 
 
 def test_opposite_orders(predict):
@@ -30,7 +30,9 @@ def test_condition(predict):
 
 def test_wait_for_a_condition(predict):
     """The lock is asked for within the wait, when the signal has come."""
-    status, out, said = run(["--finding", "1", predict("wakes"), "--", "env", "ORDER=late", "./cycles", "wakes"])
+    status, out, said = run(
+        [*PATIENTLY, "--finding", "1", predict("wakes"), "--", "env", "ORDER=late", "./cycles", "wakes"]
+    )
     assert status == DEADLOCKED, "status %d: %s%s" % (status, out, said)
     assert re.search(r"main.1:sleeps holds a since \S+ and waits for b at cycles.c:\d+", out), out
 

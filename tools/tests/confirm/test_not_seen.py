@@ -1,12 +1,12 @@
 """False alarms, and runs that don't come to the cycle: it doesn't bring these about."""
 
-from confirming import NOT_SEEN, false_alarm, run
+from confirming import NOT_SEEN, PATIENTLY, false_alarm, run
 
 
 def test_mutex_that_another_thread_unlocks(predict):
     """Who locked it last holds it, whatever the others did."""
     name = "false_handed_over"
-    status, out, said = run(["--tries", "1", predict(name), "--", "./cycles", name])
+    status, out, said = run([*PATIENTLY, "--tries", "1", predict(name), "--", "./cycles", name])
     assert status == NOT_SEEN and out == "not seen in 1 try\n", "status %d: %s%s" % (status, out, said)
 
 

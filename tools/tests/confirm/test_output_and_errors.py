@@ -4,11 +4,22 @@ import json
 import os
 import subprocess
 
-from confirming import CONFIRM, DEADLOCKED, ERROR, VIEW, check_that_nothing_is_left, deadlocks, false_alarm, run
+from confirming import (
+    CONFIRM,
+    DEADLOCKED,
+    ERROR,
+    PATIENTLY,
+    VIEW,
+    check_that_nothing_is_left,
+    deadlocks,
+    false_alarm,
+    run,
+)
+from known_traces import LIMIT
 
 
 def test_output_for_tools(predict):
-    status, out, said = run(["-o", "confirmed.json", predict("opposite"), "--", "./cycles", "opposite"])
+    status, out, said = run([*PATIENTLY, "-o", "confirmed.json", predict("opposite"), "--", "./cycles", "opposite"])
     assert status == DEADLOCKED, said
     with open("confirmed.json") as file:
         value = json.load(file)
@@ -30,7 +41,7 @@ def test_a_report_of_findings(predict):
     report.update(format=3, findings=report.pop("cycles"))
     with open("findings.json", "w") as file:
         json.dump(report, file)
-    status, out, said = run(["findings.json", "--", "./cycles", "opposite"])
+    status, out, said = run([*PATIENTLY, "findings.json", "--", "./cycles", "opposite"])
     assert status == DEADLOCKED and out.startswith("deadlocked in try "), out + said
     assert "main.1:one_way holds a since " in out and "main.2:other_way holds b since " in out, out
 
@@ -39,7 +50,7 @@ def test_program_has_the_variables_of_who_asked(predict):
     """Also those whose names a script may use for itself."""
     words = [CONFIRM, "--tries", "1", predict("opposite"), "--", "sh", "-c", "echo $here $python >> variables.txt"]
     asked = {**os.environ, "here": "one", "python": "two"}
-    said = subprocess.run(words, stdout=subprocess.PIPE, stderr=subprocess.STDOUT, env=asked, timeout=100).stdout
+    said = subprocess.run(words, stdout=subprocess.PIPE, stderr=subprocess.STDOUT, env=asked, timeout=LIMIT).stdout
     with open("variables.txt") as file:
         told = set(file)
     assert told == {"one two\n"}, (told, said)

@@ -644,8 +644,8 @@ public class Locks {
     /** Runs until it is killed, and says so once each thread has made some turns. */
     static void busy() throws Exception {
         AtomicIntegerArray turns = new AtomicIntegerArray(3);
-        for (int i = 0; i < 3; i++) {
-            int seed = i;
+        for (int number = 0; number < 3; number++) {
+            int seed = number;
             Random choose = new Random(seed);
             Thread thread = new Thread(() -> {
                 Object[] locks = new Object[12];
@@ -659,8 +659,8 @@ public class Locks {
             });
             thread.start();
         }
-        for (int i = 0; i < 3; i++) {
-            while (turns.get(i) < 20) {
+        for (int seed = 0; seed < 3; seed++) {
+            while (turns.get(seed) < 20) {
                 Thread.sleep(1);
             }
         }

@@ -49,13 +49,13 @@ def test_copies_are_of_one_moment():
     recording = Recording(os.path.realpath(raw_directory("r.json")))
     looks = partial = 0
     limit = time.monotonic() + LIMIT
-    while looks < 400 and time.monotonic() < limit:
+    while looks < (400 if time.monotonic() < limit else 100):
+        assert live.process.poll() is None, "the program ended"
         for words in words_of_threads(recording):
             looks += 1
             check_rounds(words)
             partial += len(words) % ROUND != 0
-    assert looks >= 100 and partial > 0, "%d lists, %d of them within a round" % (looks, partial)
-    assert live.process.poll() is None, "the program ended"
+    assert partial > 0, "%d lists, none of them within a round" % looks
     live.end(signal.SIGTERM)
 
 

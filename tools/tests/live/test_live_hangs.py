@@ -147,11 +147,12 @@ def test_program_that_still_runs_is_looked_at_twice(monkeypatch, later, running,
     import live
 
     copies = [SimpleNamespace(round=CIRCLE), SimpleNamespace(round=later)]
+    slept = []
     monkeypatch.setattr(live, "copy_events", lambda recording: {(7, 0): copies.pop(0)})
-    start = time.monotonic()
+    monkeypatch.setattr(live.time, "sleep", slept.append)
     found = live.last_copy(None, running)
     assert bool(found[7, 0].round) == hangs, str(found)
-    assert (time.monotonic() - start >= 0.5) == bool(running), "the time between the looks"
+    assert len(slept) == len(running) and all(seconds >= 0.5 for seconds in slept), "between the looks: %s" % slept
 
 
 def follower_of(monkeypatch, answers):

@@ -213,7 +213,8 @@ def test_second_signal_leaves_what_runs():
     assert b"waiting for process" in read_line(running.stderr), "it doesn't wait"
     running.send_signal(signal.SIGHUP)
     wait_for(lambda: not is_pending(running.pid, signal.SIGHUP), "the recorder to take the first signal")
-    assert running.poll() is None, "it leaves at the first signal"
+    with pytest.raises(subprocess.TimeoutExpired):  # at the first one it doesn't leave
+        running.wait(1)
     running.send_signal(signal.SIGHUP)
     _, said = running.communicate(timeout=LIMIT)
     assert b"still running: process %d" % background in said, said.decode()

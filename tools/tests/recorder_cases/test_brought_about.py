@@ -5,7 +5,7 @@ import subprocess
 import sys
 
 from c_programs import REFERENCE, Run
-from known_traces import TOOLS
+from known_traces import LIMIT, TOOLS
 
 DEADLOCKED = 1
 
@@ -17,7 +17,8 @@ def deadlocks(program):
         report = subprocess.run([sys.executable, REFERENCE, "--json"], stdin=lines, stdout=subprocess.PIPE).stdout
     with open("report.json", "wb") as file:
         file.write(report)
-    command = [os.path.join(TOOLS, "goodlock-confirm"), "report.json", "--", "./statics", program]
+    patiently = ["--tries", "20", "--seconds", "%d" % LIMIT]
+    command = [os.path.join(TOOLS, "goodlock-confirm"), *patiently, "report.json", "--", "./statics", program]
     done = subprocess.run(command, stdout=subprocess.PIPE, stderr=subprocess.PIPE)
     out = done.stdout.decode()
     assert done.returncode == DEADLOCKED, out + done.stderr.decode()

@@ -6,7 +6,7 @@ import subprocess
 import sys
 
 from c_programs import REFERENCE, Run, expand
-from known_traces import TOOLS, compare
+from known_traces import LIMIT, TOOLS, compare
 
 
 def test_names_of_functions():
@@ -79,6 +79,7 @@ def test_finding_with_functions_is_confirmed():
     assert json.loads(report)["cycles"], report.decode()
     with open("report.json", "wb") as file:
         file.write(report)
-    command = [os.path.join(TOOLS, "goodlock-confirm"), "report.json", "--", "./crowd", "2", "together"]
+    patiently = ["--tries", "20", "--seconds", "%d" % LIMIT]
+    command = [os.path.join(TOOLS, "goodlock-confirm"), *patiently, "report.json", "--", "./crowd", "2", "together"]
     done = subprocess.run(command, stdout=subprocess.PIPE, stderr=subprocess.PIPE)
     assert done.returncode == 1, done.stdout.decode() + done.stderr.decode()
