@@ -1,15 +1,14 @@
 -- Spans that are reached, one edge after the other.
-use Rattle.std.proofs.Common.{◌≡◌, ℕ, ◌+◌, ◌<◌, ◌≤◌, Bool, true, false, List, ◌∷◌, [], ◌++◌, length, get_or, Option, Some, None, refl, sym, ap, ◌∙◌, subst, arith, inl, inr}
+use Rattle.std.proofs.Common.{◌≡◌, ℕ, ◌+◌, ◌<◌, Bool, true, false, List, length, get_or, Option, Some, None, sym, ap, ◌∙◌, subst, arith, inl, inr}
 use Rattle.std.specs.Prelude.{slice_get, unwrap_or, IfSome, Contains}
 use Rattle.std.proofs.lemmas.Bool.{and_parts, cases_eq, cases_lt, eqb-true, false≢true}
 use Rattle.std.proofs.lemmas.Option.{same_Some, slice_get_within}
 use Rattle.gl_edges.specs.declared.edge.Edge.{Edge}
-use Rattle.gl_filters.specs.Test.{waits_for}
 use Rattle.gl_index.specs.Indexes.{both_locks}
 use Rattle.gl_index.specs.Listed.{IsNextWith}
 use Rattle.gl_index.specs.Sides.{lock_towards}
 use Rattle.gl_index.specs.declared.sides.Side.TheVariants.{Leader}
-use Rattle.gl_findings.specs.bodies.Spanning.{GoesOn, HasModelsBefore, IsOne, KeepSpans, StayIn, goes_on, is_round, longer_span, span_of}
+use Rattle.gl_findings.specs.bodies.Spanning.{GoesOn, HasModelsBefore, KeepSpans, StayIn, goes_on, is_round, longer_span, span_of}
 use Rattle.gl_findings.specs.declared.spans.Span.{Span}
 use Rattle.gl_findings.specs.declared.spans.Spans.{Spans}
 

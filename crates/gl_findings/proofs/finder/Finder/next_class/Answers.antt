@@ -1,4 +1,3 @@
-use Rattle.std.proofs.Common.{sym, ap, ◌∙◌}
 use Rattle.gl_findings.specs.bodies.Spanning.{span_of}
 use Rattle.gl_findings.proofs.Prepared.{next_at, skipped}
 use Rattle.gl_findings.proofs.Spanned.{none_on}
