@@ -17,11 +17,11 @@ use Rattle.gl_findings.specs.bodies.Passing.{may_pass, ArePassages}
 use Rattle.gl_findings.specs.declared.passages.Passages.{Passages}
 
 -- what is behind the first of some classes
-abbrev tail : List (Option ℕ) → List (Option ℕ)
+abbrev pub tail : List (Option ℕ) → List (Option ℕ)
 tail [] = []
 tail (x ∷ xs) = xs
 
-abbrev head : List (Option ℕ) → Option ℕ
+abbrev pub head : List (Option ℕ) → Option ℕ
 head [] = None
 head (x ∷ xs) = x
 
@@ -35,7 +35,7 @@ lead_behind None es leads = leads
 lead_behind (Some e) es leads = lead_rest e es leads
 
 -- the edges of a front lead on
-front_leads : (mode : Mode) (es : List Edge) → is_front mode es ≡ true → lead_on es ≡ true
+pub front_leads : (mode : Mode) (es : List Edge) → is_front mode es ≡ true → lead_on es ≡ true
 unfolding is_front
 front_leads mode es front = (and_parts (lead_on es) (kinds_together mode es) front).0
 

@@ -17,6 +17,9 @@ pub mod Prepared
 pub mod RunTwice
 pub mod RunnerSteps
 pub mod Shorter
+pub mod SpanLists
+pub mod SpanSteps
+pub mod Spanned
 pub mod Tallied
 pub mod Told
 pub mod Turning

@@ -29,11 +29,11 @@ where_none None N P is none = is
 where_none (Some v) N P is none = absurd (false≢true (sym none))
 
 -- each edge has its class
-as_long : (table : List (Edge × Sample)) → length (classes_of table) ≡ length (edges_of_table table)
+pub as_long : (table : List (Edge × Sample)) → length (classes_of table) ≡ length (edges_of_table table)
 as_long table = length-map table (class_of table) ∙ sym (length-map table (λ pair. pair.0))
 
 -- what is nothing is so wherever a signature begins
-where_least : {X : Type 0} {l : List X} (b : Bool) → l ≡ [] → cond b l [] ≡ []
+pub where_least : {X : Type 0} {l : List X} (b : Bool) → l ≡ [] → cond b l [] ≡ []
 where_least true none = none
 where_least false none = refl
 
@@ -102,17 +102,16 @@ module _ (s : Finder) (ready : IsReady s) where
   abbrev pub Grown : ℕ → List ℕ → List (List ℕ) → List (List ℕ) → ℕ → Type 0
   Grown n front old now next = HasGrown (is_before s.order.now) s.mode s.len s.table.now n front s.cap old now next
 
-  pub begin : (n : ℕ) (front : List ℕ) (from next : ℕ) (old : List (List ℕ)) → length old ≤ s.cap → ((i : ℕ) → i < from → block_of s n (front ++ i ∷ []) ≡ []) → slice_get s.next.now from ≡ Some next
-      → Grown n front old old next
-  begin n front from next old room none at =
-      grow_begin (is_before s.order.now) s.mode s.len s.table.now n front s.cap old next room (ready.next.from from next at).1
-      (λ i low below. elim (cases_lt i from) [ inl before ↦ none i before | inr not_before ↦ skipped n front from next i at not_before below ])
+  pub begin : (n : ℕ) (front : List ℕ) (from next : ℕ) (old : List (List ℕ)) → length old ≤ s.cap → next ≤ length s.table.now → ((i : ℕ) → i < from → block_of s n (front ++ i ∷ []) ≡ [])
+      → ((i : ℕ) → from ≤ i → i < next → block_of s n (front ++ i ∷ []) ≡ []) → Grown n front old old next
+  begin n front from next old room reached none passed =
+      grow_begin (is_before s.order.now) s.mode s.len s.table.now n front s.cap old next room reached
+      (λ i low below. elim (cases_lt i from) [ inl before ↦ none i before | inr not_before ↦ passed i not_before below ])
 
-  pub step : (n : ℕ) (front : List ℕ) (old now more : List (List ℕ)) (i next : ℕ) → Grown n front old now i → more ≡ take s.cap (now ++ block_of s n (front ++ i ∷ [])) → slice_get s.next.now (i + 1) ≡ Some next
-      → Grown n front old more next
-  step n front old now more i next had grown at =
-      let along = ready.next.from (i + 1) next at in
-      grow_step (is_before s.order.now) s.mode s.len s.table.now n front s.cap old now more i next had grown along.0 along.1 (λ j low below. skipped n front (i + 1) next j at low below)
+  pub step : (n : ℕ) (front : List ℕ) (old now more : List (List ℕ)) (i next : ℕ) → Grown n front old now i → more ≡ take s.cap (now ++ block_of s n (front ++ i ∷ [])) → i + 1 ≤ next → next ≤ length s.table.now
+      → ((j : ℕ) → i + 1 ≤ j → j < next → block_of s n (front ++ j ∷ []) ≡ []) → Grown n front old more next
+  step n front old now more i next had grown along reached passed =
+      grow_step (is_before s.order.now) s.mode s.len s.table.now n front s.cap old now more i next had grown along reached passed
 
   -- a signature that goes on with a class below its first one is told from there
   pub lower : (n : ℕ) (signature : List ℕ) (i : ℕ) → 0 < length signature → i < get_or signature 0 0 → block_of s n (signature ++ i ∷ []) ≡ []

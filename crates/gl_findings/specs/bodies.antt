@@ -6,5 +6,6 @@ pub mod Grounds
 pub mod Lesser
 pub mod Passing
 pub mod Running
+pub mod Spanning
 pub mod Tallies
 pub mod Told

@@ -4,17 +4,19 @@ ghost use Rattle.gl_segments.specs.Clocks.{is_before};
 ghost use Rattle.gl_filters.specs.declared.steps.Stop.TheVariants.{Memory};
 ghost use Rattle.gl_cycles.specs.Cycles.{cycles_in};
 ghost use Rattle.gl_findings.specs.Findings.{findings};
-ghost use Rattle.gl_findings.specs.bodies.Finding.{AreAdded, IsReady, IsUnbound, finding_of, block_of, below_of};
+ghost use Rattle.gl_findings.specs.bodies.Finding.{AreAdded, AreReachedBy, HasSpans, IsReady, IsUnbound, finding_of, block_of, below_of};
 ghost use Rattle.gl_findings.specs.bodies.Told.{AreGrounds};
 
 use crate::grounds::Grounds;
 use crate::passages::Passages;
 use crate::runners::{Runner, is_run_twice};
 use crate::shown::first_with;
+use crate::spans::Spans;
 use crate::turns::{begins_least, longer};
 use gl_edges::{Edge, EdgeList, Sample};
 use gl_event::Memory;
 use gl_filters::{Mode, Query, Stop, spend_step};
+use gl_index::{Chain, Closers};
 use gl_segments::Order;
 use gl_walks::{Ground, Purpose, Walker};
 use std::alloc::{AllocError, Global};
@@ -36,6 +38,13 @@ pub(crate) struct Finder<'a> {
     pub(crate) runners: &'a [Runner],
     // which classes lead on to which
     pub(crate) passages: &'a Passages,
+    // the class of each edge
+    pub(crate) classes: &'a [usize],
+    // the models by the locks that they hold, and by those that they want too
+    pub(crate) holders: &'a Chain,
+    pub(crate) closers: &'a Closers,
+    // and their spans, by their classes
+    pub(crate) begins: &'a Spans,
     // whether it ends where its steps are taken
     pub(crate) is_bound: bool,
     // how many edges a cycle may have
@@ -57,6 +66,10 @@ impl Drop for Finder<'_> {
             next,
             runners,
             passages,
+            classes,
+            holders,
+            closers,
+            begins,
             is_bound,
             len,
             cap,
@@ -114,6 +127,10 @@ impl<'a> Finder<'a> {
             next: grounds.next.as_slice(),
             runners: grounds.runners.as_slice(),
             passages: &grounds.passages,
+            classes,
+            holders: &grounds.holders,
+            closers: &grounds.closers,
+            begins: &grounds.begins,
             is_bound,
             len: query.len() as usize,
             cap: query.max() as usize + 1,
@@ -138,7 +155,7 @@ impl Finder<'_> {
     {
         let mut steps = steps;
         let mut found = Vec::new(alloc);
-        match self.grow_on(alloc, &[], 0, &mut steps, &mut found) {
+        match self.grow_on(alloc, &[], self.begins, 0, &mut steps, &mut found) {
             Ok(()) => Ok(Some(found)),
             Err(Stop::Spent) => Ok(None),
             Err(Stop::Memory) => Err(AllocError),
@@ -157,7 +174,7 @@ impl Finder<'_> {
     {
         let mut steps = 0;
         let mut found = Vec::new(alloc);
-        match self.grow_on(alloc, &[], 0, &mut steps, &mut found) {
+        match self.grow_on(alloc, &[], self.begins, 0, &mut steps, &mut found) {
             Ok(()) => Ok(found),
             Err(Stop::Memory) => Err(AllocError),
             Err(Stop::Spent) => unreachable!(),
@@ -180,7 +197,8 @@ impl Finder<'_> {
             (cycles_in found.old.items) (cycles_in found.new.items)) }
     {
         let mut steps = 0;
-        match self.grow_by(alloc, &[], class, &mut steps, found) {
+        let spans = self.begins.of_class(alloc, class)?;
+        match self.grow_by(alloc, &[], &spans, class, &mut steps, found) {
             Ok(()) => Ok(()),
             Err(Stop::Memory) => Err(AllocError),
             Err(Stop::Spent) => unreachable!(),
@@ -193,6 +211,7 @@ impl Finder<'_> {
         &self,
         alloc: Global,
         signature: &[usize],
+        spans: &Spans,
         steps: &mut usize,
         found: &mut Vec<Vec<usize>>,
     ) -> Result<(), Stop>
@@ -200,6 +219,7 @@ impl Finder<'_> {
         requires short { length signature.now ≤ self.now.len }
         requires within { All (λ class. class < length self.now.table.now) signature.now }
         requires ready { IsReady self.now }
+        requires spans { HasSpans self.now signature.now spans.now }
         requires room { length found.old.items ≤ self.now.cap }
         ensures grown { OnOk result
             (AreAdded self.now
@@ -210,11 +230,12 @@ impl Finder<'_> {
         if found.len() >= self.cap {
             return Ok(());
         }
-        self.add_shown(alloc, signature, steps, found)?;
+        self.add_shown(alloc, signature, spans, steps, found)?;
         if signature.len() == self.len {
             return Ok(());
         }
-        self.grow_on(alloc, signature, signature[0], steps, found)
+        let reached = self.reached(alloc, signature, spans, steps)?;
+        self.grow_on(alloc, signature, &reached, signature[0], steps, found)
     }
 
     // Adds the findings whose signature goes on from this one, up to the cap. No signature that goes on
@@ -224,17 +245,19 @@ impl Finder<'_> {
         &self,
         alloc: Global,
         signature: &[usize],
+        reached: &Spans,
         from: usize,
         steps: &mut usize,
         found: &mut Vec<Vec<usize>>,
     ) -> Result<(), Stop>
         requires short { length signature.now < self.now.len }
         requires within { All (λ class. class < length self.now.table.now) signature.now }
-        requires reached { from ≤ length self.now.table.now }
+        requires begins { from ≤ length self.now.table.now }
         requires none { (i : ℕ) → i < from
             → block_of self.now (self.now.len - length signature.now - 1)
             (signature.now ++ i ∷ []) ≡ [] }
         requires ready { IsReady self.now }
+        requires reached { AreReachedBy self.now signature.now reached.now }
         requires room { length found.old.items ≤ self.now.cap }
         ensures grown { OnOk result
             (AreAdded self.now
@@ -243,10 +266,11 @@ impl Finder<'_> {
             (cycles_in found.old.items) (cycles_in found.new.items)) }
         ensures stopped { IfErr result (λ stop. IsUnbound self.now → stop ≡ Memory) }
     {
-        let mut next = self.next[from];
+        let mut next = self.next_class(reached, from);
         while next < self.table.len() {
-            self.grow_by(alloc, signature, next, steps, found)?;
-            next = self.next[next + 1];
+            let spans = reached.of_class(alloc, next)?;
+            self.grow_by(alloc, signature, &spans, next, steps, found)?;
+            next = self.next_class(reached, next + 1);
         }
         Ok(())
     }
@@ -257,6 +281,7 @@ impl Finder<'_> {
         &self,
         alloc: Global,
         signature: &[usize],
+        spans: &Spans,
         class: usize,
         steps: &mut usize,
         found: &mut Vec<Vec<usize>>,
@@ -265,6 +290,7 @@ impl Finder<'_> {
         requires within { All (λ class. class < length self.now.table.now) signature.now }
         requires there { class < length self.now.table.now }
         requires ready { IsReady self.now }
+        requires spans { HasSpans self.now (signature.now ++ class ∷ []) spans.now }
         requires room { length found.old.items ≤ self.now.cap }
         ensures grown { OnOk result
             (AreAdded self.now
@@ -281,10 +307,10 @@ impl Finder<'_> {
         if longer.len() == self.len && !self.may_close(longer.as_slice()) {
             return Ok(());
         }
-        if !self.may_begin(alloc, longer.as_slice(), steps)? {
+        if !self.may_begin(alloc, longer.as_slice(), spans, steps)? {
             return Ok(());
         }
-        self.grow(alloc, longer.as_slice(), steps, found)
+        self.grow(alloc, longer.as_slice(), spans, steps, found)
     }
 
     // Whether a cycle may have this signature, as far as its last class and its first one tell.
@@ -312,8 +338,14 @@ impl Finder<'_> {
     }
 
     // Whether a signature of a cycle may begin so: no thread would have to run two classes alone, and models show
-    // a walk.
-    fn may_begin(&self, alloc: Global, front: &[usize], steps: &mut usize) -> Result<bool, Stop>
+    // a walk. For one that has no room for more classes a round is looked for, where its spans are known.
+    fn may_begin(
+        &self,
+        alloc: Global,
+        front: &[usize],
+        spans: &Spans,
+        steps: &mut usize,
+    ) -> Result<bool, Stop>
         requires some { 0 < length front.now }
         requires short { length front.now ≤ self.now.len }
         requires ready { IsReady self.now }
@@ -325,24 +357,32 @@ impl Finder<'_> {
         if is_run_twice(self.runners, front) {
             return Ok(false);
         }
+        if spans.are_all && front.len() == self.len {
+            return Ok(true);
+        }
         let walk = self.fronts.first(alloc, front, steps)?;
         Ok(walk.is_some())
     }
 
-    // Whether a cycle may have this signature: models show a round.
+    // Whether a cycle may have this signature: a chain of models leads back to where it begins, and they show a round.
     fn goes_round(
         &self,
         alloc: Global,
         signature: &[usize],
+        spans: &Spans,
         steps: &mut usize,
     ) -> Result<bool, Stop>
         requires some { 0 < length signature.now }
         requires short { length signature.now ≤ self.now.len }
         requires ready { IsReady self.now }
+        requires spans { HasSpans self.now signature.now spans.now }
         ensures none { IfOk result
             (λ goes. goes ≡ false → finding_of self.now signature.now ≡ []) }
         ensures stopped { IfErr result (λ stop. IsUnbound self.now → stop ≡ Memory) }
     {
+        if !spans.may_close() {
+            return Ok(false);
+        }
         let round = self.rounds.first(alloc, signature, steps)?;
         Ok(round.is_some())
     }
@@ -353,12 +393,14 @@ impl Finder<'_> {
         &self,
         alloc: Global,
         signature: &[usize],
+        spans: &Spans,
         steps: &mut usize,
         found: &mut Vec<Vec<usize>>,
     ) -> Result<(), Stop>
         requires some { 0 < length signature.now }
         requires short { length signature.now ≤ self.now.len }
         requires ready { IsReady self.now }
+        requires spans { HasSpans self.now signature.now spans.now }
         ensures grown { OnOk result
             (cycles_in found.new.items
             ≡ cycles_in found.old.items ++ finding_of self.now signature.now) }
@@ -370,7 +412,7 @@ impl Finder<'_> {
         if !self.may_close(signature) || !begins_least(signature) {
             return Ok(());
         }
-        if !self.goes_round(alloc, signature, steps)? {
+        if !self.goes_round(alloc, signature, spans, steps)? {
             return Ok(());
         }
         if let Some(cycle) = first_with(alloc, &self.cycles, self.len, signature, steps)? {

@@ -10,8 +10,10 @@ use crate::classes::{classes_of, next_classes};
 use crate::models::models_of;
 use crate::passages::Passages;
 use crate::runners::{Runner, runners_of};
+use crate::spans::Spans;
 use gl_edges::EdgeList;
 use gl_event::Memory;
+use gl_index::{Chain, Closers, Side};
 use std::alloc::Global;
 
 /// What a search is told of the edges.
@@ -28,6 +30,11 @@ pub(crate) struct Grounds {
     pub(crate) runners: Vec<Runner>,
     // and which classes lead on to which
     pub(crate) passages: Passages,
+    // the models by the locks that they hold, and by those that they want too
+    pub(crate) holders: Chain,
+    pub(crate) closers: Closers,
+    // and their spans, by their classes
+    pub(crate) begins: Spans,
 }
 
 // Written out, so that it is proved once: a derived drop is proved again wherever one is let go.
@@ -40,6 +47,9 @@ impl Drop for Grounds {
             next,
             runners,
             passages,
+            holders,
+            closers,
+            begins,
         } = self;
     }
 }
@@ -58,6 +68,9 @@ impl Grounds {
         let next = next_classes(alloc, &classes, &models)?;
         let runners = runners_of(alloc, edges.entries(), &classes, &kept)?;
         let passages = Passages::of(alloc, edges.entries(), &classes, &models)?;
+        let holders = Chain::of_kept(alloc, edges.entries(), Side::Leader, &models)?;
+        let closers = Closers::of(alloc, edges.entries(), &models)?;
+        let begins = Spans::of_models(alloc, edges.entries(), &classes, &models)?;
         Ok(Grounds {
             classes,
             kept,
@@ -65,6 +78,9 @@ impl Grounds {
             next,
             runners,
             passages,
+            holders,
+            closers,
+            begins,
         })
     }
 }

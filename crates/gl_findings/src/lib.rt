@@ -18,11 +18,13 @@ mod listing;
 mod models;
 mod parallel;
 mod passages;
+mod reaching;
 mod reports;
 mod roots;
 mod runners;
 mod search;
 mod shown;
+mod spans;
 mod turns;
 
 pub use classes::classes_of;

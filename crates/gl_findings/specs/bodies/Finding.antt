@@ -2,6 +2,8 @@
 use Rattle.std.specs.Prelude.{◌≡◌, ℕ, ◌<◌, ◌≤◌, ◌-◌, false, List, [], ◌∷◌, ◌++◌, length, take, get_or, All}
 use Rattle.gl_segments.specs.Clocks.{is_before}
 use Rattle.gl_filters.specs.Picked.{edges_of_table}
+use Rattle.gl_index.specs.Indexes.{AreChainedKept, AreClosers}
+use Rattle.gl_index.specs.declared.sides.Side.TheVariants.{Leader}
 use Rattle.gl_pruning.specs.OffCycles.{KeepsCycles}
 use Rattle.gl_walks.specs.declared.purpose.Purpose.{Purpose}
 use Rattle.gl_walks.specs.declared.purpose.Purpose.TheVariants.{Cycle, Front, Round}
@@ -11,9 +13,11 @@ use Rattle.gl_findings.specs.Findings.{classes_of}
 use Rattle.gl_findings.specs.bodies.Grounds.{AreModels, IsNextClass}
 use Rattle.gl_findings.specs.bodies.Running.{AreRunners}
 use Rattle.gl_findings.specs.bodies.Passing.{ArePassages}
+use Rattle.gl_findings.specs.bodies.Spanning.{AreReached, HaveSpans}
 use Rattle.gl_findings.specs.bodies.Growing.{finding, block, blocks_below}
 use Rattle.gl_findings.specs.declared.finder.Finder.{Finder}
 use Rattle.gl_findings.specs.declared.parallel.ByClass.{ByClass}
+use Rattle.gl_findings.specs.declared.spans.Spans.{Spans}
 
 -- the walker looks over the search's edges, for this purpose
 pub record WalksFor (s : Finder) (walker : Walker) (aim : Purpose) : Type 0 where
@@ -46,6 +50,15 @@ pub record IsReady (s : Finder) : Type 0 where
   -- and which classes lead on to which
   pub pass : ArePassages (edges_of_table s.table.now)
       (classes_of s.table.now) s.fronts.ground.flags.now s.passages.now
+  -- and which model holds a lock, or holds one and wants another
+  pub told : s.classes.now ≡ classes_of s.table.now
+  pub held_by : AreChainedKept Leader (edges_of_table s.table.now)
+      s.fronts.ground.flags.now 0 s.holders.now
+  pub closed_by : AreClosers (edges_of_table s.table.now)
+      s.fronts.ground.flags.now 0 s.closers.now
+  -- and the spans of single models
+  pub begin : AreReached (edges_of_table s.table.now)
+      (classes_of s.table.now) s.fronts.ground.flags.now s.len [] s.begins.now
 
 -- nothing ends before it is through
 abbrev pub IsUnbound : Finder → Type 0
@@ -68,6 +81,18 @@ block_of s n front = block (is_before s.order.now) s.mode s.len s.table.now n fr
 -- those that go on with a class below k, and at most n more
 abbrev pub below_of : Finder → ℕ → List ℕ → ℕ → List (List ℕ)
 below_of s n front k = blocks_below (is_before s.order.now) s.mode s.len s.table.now n front k
+
+-- these are the spans of a front
+abbrev pub HasSpans : Finder → List ℕ → Spans → Type 0
+HasSpans s front spans =
+    HaveSpans (edges_of_table s.table.now) (classes_of s.table.now)
+    s.fronts.ground.flags.now s.len front spans
+
+-- and those of fronts with one class more
+abbrev pub AreReachedBy : Finder → List ℕ → Spans → Type 0
+AreReachedBy s front reached =
+    AreReached (edges_of_table s.table.now) (classes_of s.table.now)
+    s.fronts.ground.flags.now s.len front reached
 
 -- all findings whose signature begins with the class at a place among these
 abbrev pub all_of_root : Finder → List ℕ → ℕ → List (List ℕ)

@@ -1,15 +1,18 @@
 -- What a search of signatures is told of the edges.
-use Rattle.std.specs.Prelude.{◌≡◌, ℕ, Bool, List, length}
+use Rattle.std.specs.Prelude.{◌≡◌, ℕ, Bool, List, [], length}
 use Rattle.gl_event.specs.declared.events.Segment.{Segment}
 use Rattle.gl_edges.specs.declared.edge.Edge.{Edge}
 use Rattle.gl_edges.specs.declared.edge.Sample.{Sample}
 use Rattle.gl_filters.specs.declared.query.Mode.{Mode}
 use Rattle.gl_filters.specs.Picked.{edges_of_table}
+use Rattle.gl_index.specs.Indexes.{AreChainedKept, AreClosers}
+use Rattle.gl_index.specs.declared.sides.Side.TheVariants.{Leader}
 use Rattle.gl_pruning.specs.OffCycles.{KeepsCycles}
 use Rattle.gl_findings.specs.Findings.{classes_of}
 use Rattle.gl_findings.specs.bodies.Grounds.{AreModels, IsNextClass}
 use Rattle.gl_findings.specs.bodies.Running.{AreRunners}
 use Rattle.gl_findings.specs.bodies.Passing.{ArePassages}
+use Rattle.gl_findings.specs.bodies.Spanning.{AreReached}
 use Rattle.gl_findings.specs.declared.grounds.Grounds.{Grounds}
 
 -- it is so
@@ -22,3 +25,6 @@ pub record AreGrounds (before : Segment → Segment → Bool) (mode : Mode) (len
   pub follow : IsNextClass (length table) (classes_of table) g.models.items g.next.items
   pub run : AreRunners (edges_of_table table) (classes_of table) g.kept.items g.runners.items
   pub pass : ArePassages (edges_of_table table) (classes_of table) g.models.items g.passages
+  pub held_by : AreChainedKept Leader (edges_of_table table) g.models.items 0 g.holders
+  pub closed_by : AreClosers (edges_of_table table) g.models.items 0 g.closers
+  pub begin : AreReached (edges_of_table table) (classes_of table) g.models.items len [] g.begins

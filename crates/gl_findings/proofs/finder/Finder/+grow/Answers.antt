@@ -1,11 +1,14 @@
-use Rattle.std.proofs.Common.{◌≡◌, ◌+◌, ◌-◌, [], ◌∷◌, ◌∙◌, length, map, refl, ap, subst, arith, rules}
+use Rattle.std.proofs.Common.{◌≡◌, ◌-◌, [], ◌∷◌, ◌∙◌, length, map, refl, ap, subst, arith, rules}
 use Rattle.std.proofs.lemmas.List.{length-append, length-map}
 use Rattle.std.proofs.lemmas.Result.{on_ok_weaker}
 use Rattle.gl_segments.specs.Clocks.{is_before}
 use Rattle.gl_findings.proofs.Below.{grown_room, finding_room}
 use Rattle.gl_cycles.specs.Cycles.{cycles_in}
 use Rattle.gl_findings.specs.bodies.Finding.{finding_of}
-use Rattle.gl_findings.proofs.Prepared.{none_open, nothing_more, begin, step, lower, alone, whole, later, next_at}
+use Rattle.gl_findings.proofs.Prepared.{none_open, nothing_more, begin, step, lower, alone, whole}
+use Rattle.gl_findings.proofs.Spanned.{spans_on}
+use Rattle.gl_filters.specs.Picked.{edges_of_table}
+use Rattle.gl_findings.specs.Findings.{classes_of}
 use Rattle.gl_findings.proofs.finder.Finder.+grow.Goals as goal
 
 -- the signature may not be longer
@@ -32,7 +35,7 @@ grow-grow_on-requires t c =
             omega (arith, first),
             (
               (λ i below. lower s c.requires.ready (s.len - length signature - 1) signature i c.requires.some below),
-              (c.requires.ready, omega (arith, room, ap length c.in_ok-add_shown.ensures.grown, length-map c.add_shown.new.found.items (λ cycle. cycle.items))),
+              (c.requires.ready, (c.in_ok-reached.ensures.reached, omega (arith, room, ap length c.in_ok-add_shown.ensures.grown, length-map c.add_shown.new.found.items (λ cycle. cycle.items)))),
             ),
           ),
         ),
@@ -49,29 +52,31 @@ grow-returns-clause-grown t c =
 pub grow_on-loop-next-init : goal.grow_on-loop-next-init
 grow_on-loop-next-init t c =
     let s = c.args.self.now in
-    begin s c.requires.ready (s.len - length c.args.signature.now - 1) c.args.signature.now c.args.from _ _
-    (omega (arith, c.requires.room, length-map c.args.found.now.items (λ cycle. cycle.items))) c.requires.none (next_at s c.requires.ready c.args.from c.requires.reached)
+    let n = s.len - length c.args.signature.now - 1 in
+    let next = c.next_class-next.ensures in
+    begin s c.requires.ready n c.args.signature.now c.args.from _ _
+    (omega (arith, c.requires.room, length-map c.args.found.now.items (λ cycle. cycle.items))) next.within c.requires.none (λ i low below. next.none c.args.signature.now i c.requires.short c.requires.reached low below)
 
 pub grow_on-grow_by-requires : goal.grow_on-grow_by-requires
 grow_on-grow_by-requires t c =
     let s = c.args.self.now in
     let short = c.requires.short in
-    let room = grown_room (is_before s.order.now) s.mode s.len s.table.now (s.len - length c.args.signature.now - 1) c.args.signature.now s.cap _ _ _ c.loop-next.invariant in (
+    let room = grown_room (is_before s.order.now) s.mode s.len s.table.now (s.len - length c.args.signature.now - 1) c.args.signature.now s.cap _ _ _ c.loop-next.invariant in
+    let spans = spans_on (edges_of_table s.table.now) (classes_of s.table.now) s.fronts.ground.flags.now s.len c.args.signature.now c.loop-next.next c.args.reached.now c.in_ok-spans.spans c.requires.reached c.in_ok-spans.ensures.all c.in_ok-spans.ensures.has in (
       search rules,
-      (short, (c.requires.within, (omega arith, (c.requires.ready, omega (arith, room, length-map c.loop-next.found.items (λ cycle. cycle.items)))))),
+      (short, (c.requires.within, (omega arith, (c.requires.ready, (spans, omega (arith, room, length-map c.loop-next.found.items (λ cycle. cycle.items))))))),
     )
 
 pub grow_on-loop-next-smaller : goal.grow_on-loop-next-smaller
-grow_on-loop-next-smaller t c =
-    let s = c.args.self.now in
-    let along = later s c.requires.ready c.loop-next.next (omega arith) in
-    omega (arith, along.0, along.1)
+grow_on-loop-next-smaller t c = omega (arith, c.next_class-next-in-loop-next.ensures.from, c.next_class-next-in-loop-next.ensures.within)
 
 -- one class more
 pub grow_on-loop-next-preserved : goal.grow_on-loop-next-preserved
 grow_on-loop-next-preserved t c =
     let s = c.args.self.now in
-    step s c.requires.ready (s.len - length c.args.signature.now - 1) c.args.signature.now _ _ _ c.loop-next.next _ c.loop-next.invariant c.in_ok-grow_by.ensures.grown (next_at s c.requires.ready (c.loop-next.next + 1) (omega arith))
+    let n = s.len - length c.args.signature.now - 1 in
+    let next = c.next_class-next-in-loop-next.ensures in
+    step s c.requires.ready n c.args.signature.now _ _ _ c.loop-next.next _ c.loop-next.invariant c.in_ok-grow_by.ensures.grown next.from next.within (λ j low below. next.none c.args.signature.now j c.requires.short c.requires.reached low below)
 
 -- it would be as long as a cycle may be, and doesn't lead round
 pub grow_by-returns-then-not-may_close-clause-grown : goal.grow_by-returns-then-not-may_close-clause-grown

@@ -126,4 +126,8 @@ returns-clause-ready c = record {
   next = search rules;
   run = search rules;
   pass = search rules;
+  told = search rules;
+  held_by = search rules;
+  closed_by = search rules;
+  begin = search rules;
 }

@@ -39,4 +39,9 @@ returns c = λ before mode len keeps. record {
   follow = subst (λ n. IsNextClass n (classes_of c.args.edges.now) c.in_ok-models.models.items c.in_ok-next.next.items) (length-map c.args.edges.now (class_of c.args.edges.now)) (search rules);
   run = search rules;
   pass = search rules;
+  held_by = search rules;
+  closed_by = search rules;
+  begin =
+      let begins = c.in_ok-begins.ensures len in
+      rw (c.entries-6.ensures.pairs, c.deref-11.ensures.value, c.deref-12.ensures.value, c.in_ok-classes.ensures.classes, c.entries.ensures.pairs) at begins;
 }
