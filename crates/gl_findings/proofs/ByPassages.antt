@@ -39,6 +39,11 @@ pub front_leads : (mode : Mode) (es : List Edge) → is_front mode es ≡ true �
 unfolding is_front
 front_leads mode es front = (and_parts (lead_on es) (kinds_together mode es) front).0
 
+-- and go together by their kinds
+pub front_together : (mode : Mode) (es : List Edge) → is_front mode es ≡ true → kinds_together mode es ≡ true
+unfolding is_front
+front_together mode es front = (and_parts (lead_on es) (kinds_together mode es) front).1
+
 module _ (edges : List Edge) (classes : List ℕ) (flags : List Bool) (passages : Passages) (long : length classes ≡ length edges) (pass : ArePassages edges classes flags passages) where
   -- two edges of such classes
   no_pair : (c d i j : ℕ) → may_pass passages c d ≡ false → slice_get flags i ≡ Some true → slice_get flags j ≡ Some true → slice_get classes i ≡ Some c → slice_get classes j ≡ Some d

@@ -1,14 +1,17 @@
 //! Which spans are reached from those of a front.
-ghost use Rattle.std.specs.Prelude.{◌≡◌, ◌<◌, ◌≤◌, ◌∷◌, [], ◌++◌, ◌-◌, ℕ, List, true, false, length, IfErr, IfOk, OnOk};
+ghost use Rattle.std.specs.Prelude.{◌≡◌, ◌<◌, ◌≤◌, ◌∷◌, [], ◌++◌, ◌-◌, ℕ, Bool, List, true, false, length, IfErr, IfOk, OnOk};
+ghost use Rattle.gl_edges.specs.declared.edge.Edge.{Edge};
 ghost use Rattle.gl_filters.specs.Picked.{edges_of_table};
 ghost use Rattle.gl_filters.specs.declared.steps.Stop.TheVariants.{Memory};
 ghost use Rattle.gl_findings.specs.Findings.{classes_of};
 ghost use Rattle.gl_findings.specs.bodies.Finding.{AreReachedBy, HasSpans, IsReady, IsUnbound, block_of};
-ghost use Rattle.gl_findings.specs.bodies.Spanning.{AreInOrder, GoesOn, KeepSpans};
+ghost use Rattle.gl_findings.specs.bodies.Spanning.{AreInOrder, GoesOn, GoesOnAt, GoesWithAt, KeepSpans};
 
 use crate::finder::Finder;
 use crate::spans::{Span, Spans};
-use gl_filters::{Stop, spend_step};
+use gl_edges::Edge;
+use gl_event::Memory;
+use gl_filters::{Stop, kinds_go_together, spend_step};
 use std::alloc::Global;
 
 // How many edges are looked at for the spans of one front at most.
@@ -57,7 +60,7 @@ impl Finder<'_> {
         requires ready { IsReady self.now }
         ensures keep { OnOk result (KeepSpans reached.old reached.new) }
         ensures added { OnOk result
-            (GoesOn (edges_of_table self.now.table.now) (classes_of self.now.table.now)
+            (GoesOn self.now.mode (edges_of_table self.now.table.now) (classes_of self.now.table.now)
             self.now.fronts.ground.flags.now is_last span.now reached.new) }
         ensures stopped { IfErr result (λ stop. IsUnbound self.now → stop ≡ Memory) }
     {
@@ -80,7 +83,7 @@ impl Finder<'_> {
         requires ready { IsReady self.now }
         ensures keep { OnOk result (KeepSpans reached.old reached.new) }
         ensures added { OnOk result
-            (GoesOn (edges_of_table self.now.table.now) (classes_of self.now.table.now)
+            (GoesOn self.now.mode (edges_of_table self.now.table.now) (classes_of self.now.table.now)
             self.now.fronts.ground.flags.now false span.now reached.new) }
         ensures stopped { IfErr result (λ stop. IsUnbound self.now → stop ≡ Memory) }
     {
@@ -92,7 +95,7 @@ impl Finder<'_> {
             }
             *looks -= 1;
             spend_step(self.is_bound, steps)?;
-            reached.add(span, &self.table[j].0, self.classes[j])?;
+            self.add_with(span, j, reached)?;
             next = self.holders.after(j);
         }
         Ok(())
@@ -109,7 +112,7 @@ impl Finder<'_> {
         requires ready { IsReady self.now }
         ensures keep { OnOk result (KeepSpans reached.old reached.new) }
         ensures added { OnOk result
-            (GoesOn (edges_of_table self.now.table.now) (classes_of self.now.table.now)
+            (GoesOn self.now.mode (edges_of_table self.now.table.now) (classes_of self.now.table.now)
             self.now.fronts.ground.flags.now true span.now reached.new) }
         ensures stopped { IfErr result (λ stop. IsUnbound self.now → stop ≡ Memory) }
     {
@@ -121,10 +124,44 @@ impl Finder<'_> {
             }
             *looks -= 1;
             spend_step(self.is_bound, steps)?;
-            reached.add(span, &self.table[j].0, self.classes[j])?;
+            self.add_with(span, j, reached)?;
             next = self.closers.after(j);
         }
         Ok(())
+    }
+
+    // Adds the span of the chain that goes on with the edge at a place, where it may: the last edge leads on to it, and the kinds
+    // of both ends go with its own.
+    fn add_with(&self, span: &Span, j: usize, reached: &mut Spans) -> Result<(), Memory>
+        requires there { j < length self.now.table.now }
+        requires ready { IsReady self.now }
+        ensures keep { OnOk result (KeepSpans reached.old reached.new) }
+        ensures added { OnOk result
+            ((is_last : Bool) (f : Edge)
+            → GoesOnAt self.now.mode (edges_of_table self.now.table.now)
+            (classes_of self.now.table.now) self.now.fronts.ground.flags.now
+            is_last span.now reached.new j f) }
+    {
+        let edge = &self.table[j].0;
+        if !span.goes_on(edge) {
+            return Ok(());
+        }
+        if !self.may_go_with(span.first, edge) || !self.may_go_with(span.last, edge) {
+            return Ok(());
+        }
+        reached.add(span.longer(j, edge, self.classes[j]))?;
+        Ok(())
+    }
+
+    // Whether the kind of the edge at a place, if there is one, goes with that of this edge.
+    fn may_go_with(&self, place: usize, edge: &Edge) -> bool
+        ensures { result ≡ false
+            → ¬ GoesWithAt self.now.mode (edges_of_table self.now.table.now) place edge.now }
+    {
+        if place >= self.table.len() {
+            return true;
+        }
+        kinds_go_together(self.mode, &self.table[place].0, edge)
     }
 
     /// The next class, from this one on, with which a signature that reached these spans may go on. As many as there are edges

@@ -8,6 +8,7 @@ ghost use Rattle.std.specs.Prelude.{◌≡◌, ◌<◌, ◌≤◌, [], ℕ, true
 ghost use Rattle.std.specs.List.{between};
 ghost use Rattle.std.specs.List.Sorted.{IsNonDecreasingBy, IsPartitionPoint};
 ghost use Rattle.gl_filters.specs.Picked.{edges_of_table};
+ghost use Rattle.gl_filters.specs.declared.query.Mode.{Mode};
 ghost use Rattle.gl_findings.specs.bodies.Spanning.{AreInOrder, AreReached, HasModelsBefore, KeepSpans, StayIn, goes_on, is_round, longer_span, span_of};
 
 use gl_edges::{Edge, Sample};
@@ -15,9 +16,12 @@ use gl_event::{LockId, LockMode, Memory};
 use gl_filters::waits_for;
 use std::alloc::Global;
 
-/// The ends of a chain of models: what its first edge holds, and what its last one wants. And the class of that.
+/// The ends of a chain of models: where its first edge and its last one stand, what the first holds, and what the last wants.
+/// And the class of the last.
 #[derive(Clone, Copy)]
 pub(crate) struct Span {
+    pub(crate) first: usize,
+    pub(crate) last: usize,
     pub(crate) held: LockId,
     pub(crate) held_mode: LockMode,
     pub(crate) wanted: LockId,
@@ -27,10 +31,12 @@ pub(crate) struct Span {
 
 impl Span {
     // The span of a chain of one edge.
-    fn of(edge: &Edge, class: usize) -> Span
-        ensures { result ≡ span_of edge.now edge.now class }
+    fn of(place: usize, edge: &Edge, class: usize) -> Span
+        ensures { result ≡ span_of place place edge.now edge.now class }
     {
         Span {
+            first: place,
+            last: place,
             held: edge.held,
             held_mode: edge.held_mode,
             wanted: edge.wanted,
@@ -39,11 +45,13 @@ impl Span {
         }
     }
 
-    // The span of a chain that is longer by an edge of a class.
-    fn longer(&self, edge: &Edge, class: usize) -> Span
-        ensures { result ≡ longer_span self.now edge.now class }
+    /// The span of a chain that is longer by the edge of a class at a place.
+    pub(crate) fn longer(&self, place: usize, edge: &Edge, class: usize) -> Span
+        ensures { result ≡ longer_span self.now place edge.now class }
     {
         Span {
+            first: self.first,
+            last: place,
             held: self.held,
             held_mode: self.held_mode,
             wanted: edge.wanted,
@@ -52,8 +60,8 @@ impl Span {
         }
     }
 
-    // Whether a chain goes on with this edge.
-    fn goes_on(&self, edge: &Edge) -> bool
+    /// Whether the last edge of a chain leads on to this one.
+    pub(crate) fn goes_on(&self, edge: &Edge) -> bool
         ensures { result ≡ goes_on self.now edge.now }
     {
         waits_for(self.wanted, self.wanted_mode, edge.held, edge.held_mode)
@@ -85,8 +93,8 @@ impl Spans {
         requires classes { length classes.now ≡ length table.now }
         requires flags { length flags.now ≡ length table.now }
         ensures { IfOk result
-            (λ spans. (len : ℕ)
-            → AreReached (edges_of_table table.now) classes.now flags.now len [] spans) }
+            (λ spans. (mode : Mode) (len : ℕ)
+            → AreReached mode (edges_of_table table.now) classes.now flags.now len [] spans) }
     {
         let mut list = spans_of_models(alloc, table, classes, flags)?;
         sort(&mut list);
@@ -105,17 +113,12 @@ impl Spans {
         }
     }
 
-    /// Adds the span of a chain that goes on with an edge of a class, where it does.
-    pub(crate) fn add(&mut self, span: &Span, edge: &Edge, class: usize) -> Result<(), Memory>
+    /// Adds a span.
+    pub(crate) fn add(&mut self, span: Span) -> Result<(), Memory>
         ensures keep { OnOk result (KeepSpans self.old self.new) }
-        ensures added { OnOk result
-            (goes_on span.now edge.now ≡ true
-            → Contains self.new.list.items (longer_span span.now edge.now class)) }
+        ensures added { OnOk result (Contains self.new.list.items span) }
     {
-        if !span.goes_on(edge) {
-            return Ok(());
-        }
-        self.list.push(span.longer(edge, class))?;
+        self.list.push(span)?;
         Ok(())
     }
 
@@ -207,26 +210,28 @@ fn spans_of_models(
 {
     let mut list = Vec::new(alloc);
     for i in 0..table.len() {
-        add_model(&mut list, flags[i], &table[i].0, classes[i])?;
+        add_model(&mut list, flags[i], i, &table[i].0, classes[i])?;
     }
     Ok(list)
 }
 
-// Adds the span of an edge of a class, if it is flagged.
+// Adds the span of the edge of a class at a place, if it is flagged.
 fn add_model(
     list: &mut Vec<Span>,
     is_flagged: bool,
+    place: usize,
     edge: &Edge,
     class: usize,
 ) -> Result<(), Memory>
     ensures keep { OnOk result (StayIn list.old.items list.new.items) }
     ensures added { OnOk result
-        (is_flagged ≡ true → Contains list.new.items (span_of edge.now edge.now class)) }
+        (is_flagged ≡ true
+        → Contains list.new.items (span_of place place edge.now edge.now class)) }
 {
     if !is_flagged {
         return Ok(());
     }
-    list.push(Span::of(edge, class))?;
+    list.push(Span::of(place, edge, class))?;
     Ok(())
 }
 

@@ -57,7 +57,7 @@ pub record IsReady (s : Finder) : Type 0 where
   pub closed_by : AreClosers (edges_of_table s.table.now)
       s.fronts.ground.flags.now 0 s.closers.now
   -- and the spans of single models
-  pub begin : AreReached (edges_of_table s.table.now)
+  pub begin : AreReached s.mode (edges_of_table s.table.now)
       (classes_of s.table.now) s.fronts.ground.flags.now s.len [] s.begins.now
 
 -- nothing ends before it is through
@@ -85,13 +85,13 @@ below_of s n front k = blocks_below (is_before s.order.now) s.mode s.len s.table
 -- these are the spans of a front
 abbrev pub HasSpans : Finder → List ℕ → Spans → Type 0
 HasSpans s front spans =
-    HaveSpans (edges_of_table s.table.now) (classes_of s.table.now)
+    HaveSpans s.mode (edges_of_table s.table.now) (classes_of s.table.now)
     s.fronts.ground.flags.now s.len front spans
 
 -- and those of fronts with one class more
 abbrev pub AreReachedBy : Finder → List ℕ → Spans → Type 0
 AreReachedBy s front reached =
-    AreReached (edges_of_table s.table.now) (classes_of s.table.now)
+    AreReached s.mode (edges_of_table s.table.now) (classes_of s.table.now)
     s.fronts.ground.flags.now s.len front reached
 
 -- all findings whose signature begins with the class at a place among these

@@ -22,7 +22,7 @@ loop-i-preserved c =
     (slice_get-get_or c.args.classes.now n 0 (omega (arith, within, c.requires.classes)))
     (slice_get-get_or c.args.flags.now n false (omega (arith, within, c.requires.flags)))
     c.in_ok-add_model.ensures.keep
-    (λ flag. subst (λ (e : Edge). Contains c.add_model.new.list.items (span_of e e class)) (sym is) (c.in_ok-add_model.ensures.added flag))
+    (λ flag. subst (λ (e : Edge). Contains c.add_model.new.list.items (span_of n n e e class)) (sym is) (c.in_ok-add_model.ensures.added flag))
     c.loop-i.invariant
 
 pub returns : goal.returns

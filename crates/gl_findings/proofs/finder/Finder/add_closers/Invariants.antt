@@ -3,14 +3,14 @@ use Rattle.std.specs.Prelude.{unwrap_or}
 use Rattle.gl_filters.specs.Picked.{edges_of_table}
 use Rattle.gl_index.specs.Indexes.{both_locks}
 use Rattle.gl_findings.specs.Findings.{classes_of}
-use Rattle.gl_findings.specs.bodies.Spanning.{KeepSpans}
-use Rattle.gl_findings.proofs.SpanSteps.{ArePassed, GoesOnAt}
+use Rattle.gl_findings.specs.bodies.Spanning.{GoesOnAt, KeepSpans}
+use Rattle.gl_findings.proofs.SpanSteps.{ArePassed}
 use Rattle.gl_findings.proofs.finder.Finder.add_closers.Given as goal
 
 -- chains that go on with one of those so far have their spans, and none is lost
 abbrev pub invariant-loop-next : goal.invariant-loop-next
 invariant-loop-next l =
-    ArePassed both_locks (edges_of_table l.self.table.now) l.self.fronts.ground.flags.now (l.span.wanted, l.span.held) (GoesOnAt (edges_of_table l.self.table.now) (classes_of l.self.table.now) l.self.fronts.ground.flags.now true l.span l.reached) l.next
+    ArePassed both_locks (edges_of_table l.self.table.now) l.self.fronts.ground.flags.now (l.span.wanted, l.span.held) (GoesOnAt l.self.mode (edges_of_table l.self.table.now) (classes_of l.self.table.now) l.self.fronts.ground.flags.now true l.span l.reached) l.next
     × KeepSpans l.initial.reached l.reached
 
 -- how many positions are left to look at

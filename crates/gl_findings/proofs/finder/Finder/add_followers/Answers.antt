@@ -1,16 +1,12 @@
-use Rattle.std.proofs.Common.{◌≡◌, ℕ, false, get_or, length, sym, ap, ◌∙◌, subst, arith}
-use Rattle.std.specs.Prelude.{Contains}
+use Rattle.std.proofs.Common.{false, length}
 use Rattle.std.proofs.lemmas.List.{length-map}
-use Rattle.std.proofs.lemmas.Option.{get_or_from_slice_get}
-use Rattle.gl_edges.specs.declared.edge.Edge.{Edge}
 use Rattle.gl_filters.specs.Picked.{edges_of_table}
 use Rattle.gl_index.specs.Sides.{lock_towards}
 use Rattle.gl_index.specs.declared.sides.Side.TheVariants.{Leader}
 use Rattle.gl_index.proofs.Lists.{element_at, fewer_left}
-use Rattle.gl_pruning.proofs.ByKinds.{edge_is}
 use Rattle.gl_findings.specs.Findings.{classes_of}
-use Rattle.gl_findings.specs.bodies.Spanning.{goes_on, longer_span}
-use Rattle.gl_findings.proofs.SpanSteps.{GoesOnAt, goes_on_all, goes_on_still, keep_on, keep_same, passed_more, passed_none, tells_held}
+use Rattle.gl_findings.specs.bodies.Spanning.{GoesOnAt}
+use Rattle.gl_findings.proofs.SpanSteps.{goes_on_all, goes_on_still, keep_on, keep_same, passed_more, passed_none, tells_held}
 use Rattle.gl_findings.proofs.finder.Finder.add_followers.Goals as goal
 
 pub loop-next-init : goal.loop-next-init
@@ -19,7 +15,7 @@ loop-next-init c =
     let edges = edges_of_table s.table.now in
     let flags = s.fronts.ground.flags.now in
     let span = c.args.span.now in (
-      passed_none (lock_towards Leader) edges flags span.wanted (GoesOnAt edges (classes_of s.table.now) flags false span c.args.reached.now) c.begin-next.result (c.begin-next.ensures edges flags Leader c.requires.ready.held_by),
+      passed_none (lock_towards Leader) edges flags span.wanted (GoesOnAt s.mode edges (classes_of s.table.now) flags false span c.args.reached.now) c.begin-next.result (c.begin-next.ensures edges flags Leader c.requires.ready.held_by),
       keep_same c.args.reached.now,
     )
 
@@ -42,22 +38,16 @@ loop-next-preserved c =
     let span = c.args.span.now in
     let j = c.in-Some.j in
     let old = c.loop-next.reached in
-    let new = c.add.new.self in
+    let new = c.add_with.new.reached in
     let next = rw c.in-Some.is at c.loop-next.invariant.0 in
-    let there = element_at edges j next.shares.0 in
-    let is = edge_is s.table.now c.index-self-j.result j there.0 (omega (arith, next.shares.0, length-map s.table.now (λ pair. pair.0))) there.1 in
-    let added : GoesOnAt edges classes flags false span new j there.0 =
-    λ class of_class goes round.
-        let same : get_or s.classes.now j 0 ≡ class = ap (λ l. get_or l j 0) c.requires.ready.told ∙ get_or_from_slice_get classes j class 0 of_class in
-        subst (λ (n : ℕ). Contains new.list.items (longer_span span there.0 n)) same
-        (subst (λ (f : Edge). Contains new.list.items (longer_span span f (get_or s.classes.now j 0))) (sym is) (c.in_ok-add.ensures.added (ap (goes_on span) (sym is) ∙ goes))) in (
-      passed_more (lock_towards Leader) edges flags span.wanted (GoesOnAt edges classes flags false span old) (GoesOnAt edges classes flags false span new) j there.0 c.after-next.result
-          (goes_on_still edges classes flags false span old new c.in_ok-add.ensures.keep.stay) there.1 next added (c.after-next.ensures edges flags Leader there.0 c.requires.ready.held_by there.1),
-      keep_on c.args.reached.now old new c.loop-next.invariant.1 c.in_ok-add.ensures.keep,
+    let there = element_at edges j next.shares.0 in (
+      passed_more (lock_towards Leader) edges flags span.wanted (GoesOnAt s.mode edges classes flags false span old) (GoesOnAt s.mode edges classes flags false span new) j there.0 c.after-next.result
+          (goes_on_still s.mode edges classes flags false span old new c.in_ok-add_with.ensures.keep.stay) there.1 next (c.in_ok-add_with.ensures.added false there.0) (c.after-next.ensures edges flags Leader there.0 c.requires.ready.held_by there.1),
+      keep_on c.args.reached.now old new c.loop-next.invariant.1 c.in_ok-add_with.ensures.keep,
     )
 
 pub returns-clause-added : goal.returns-clause-added
 returns-clause-added c =
     let s = c.args.self.now in
     let span = c.args.span.now in
-    goes_on_all (edges_of_table s.table.now) (classes_of s.table.now) s.fronts.ground.flags.now false span (lock_towards Leader) span.wanted c.loop-next.reached (λ class f goes round. tells_held span class f goes) (rw c.in_default.is at c.loop-next.invariant.0)
+    goes_on_all s.mode (edges_of_table s.table.now) (classes_of s.table.now) s.fronts.ground.flags.now false span (lock_towards Leader) span.wanted c.loop-next.reached (λ class place f goes round. tells_held span f goes) (rw c.in_default.is at c.loop-next.invariant.0)

@@ -14,7 +14,7 @@ returns-clause-none c = λ not.
 pub returns-then-not-may_close-clause-none : goal.returns-then-not-may_close-clause-none
 returns-then-not-may_close-clause-none c = λ not.
     none_closed c.args.self.now c.requires.ready c.args.signature.now c.requires.some
-    (λ e f chain leads.
+    (λ i j e f chain leads.
     let may = c.if-not-may_close.ensures in
-    let has = c.requires.spans.each (may.all refl) e f chain (λ is. leads) in
-    false≢true (sym (may.none refl (span_of e f has.0) has.1) ∙ leads))
+    let has = c.requires.spans.each (may.all refl) i j e f chain (λ is. leads) in
+    false≢true (sym (may.none refl (span_of i j e f has.0) has.1) ∙ leads))

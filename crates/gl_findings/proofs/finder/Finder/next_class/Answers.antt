@@ -13,4 +13,4 @@ returns-then-not-reached-clause-none c = λ front i short reached low below.
 pub returns-clause-none : goal.returns-clause-none
 returns-clause-none c = λ front i short reached low below.
     let s = c.args.self.now in
-    none_on s c.requires.ready front i short (λ e f chain due. c.next_class.ensures.skipped (span_of e f i) (reached.each c.if-not-reached.false i e f chain due) low below)
+    none_on s c.requires.ready front i short (λ a b e f chain due. c.next_class.ensures.skipped (span_of a b e f i) (reached.each c.if-not-reached.false i a b e f chain due) low below)

@@ -17,7 +17,7 @@ loop-i-preserved c =
     let list = spans.list.items in
     let span = c.index.result.now in
     let within : c.loop-i.i < length list = omega (arith, c.loop-i-test.true, c.len-i-end.ensures, spans.list.ok.0) in
-    followed_more (edges_of_table s.table.now) (classes_of s.table.now) s.fronts.ground.flags.now (eqb (length c.args.front.now + 1) s.len) spans c.loop-i.i span c.loop-i.reached c.add_after.new.reached within
+    followed_more s.mode (edges_of_table s.table.now) (classes_of s.table.now) s.fronts.ground.flags.now (eqb (length c.args.front.now + 1) s.len) spans c.loop-i.i span c.loop-i.reached c.add_after.new.reached within
     (λ d. get_or_default list c.loop-i.i d span within ∙ sym c.index.ensures) c.in_ok-add_after.ensures.keep c.in_ok-add_after.ensures.added c.loop-i.invariant
 
 pub returns-clause-reached : goal.returns-clause-reached
@@ -30,5 +30,5 @@ returns-clause-reached c =
     let spans = c.args.spans.now in
     let is_last = eqb (length front + 1) s.len in
     let whole : c.loop-i.i ≡ length spans.list.items = omega (arith, c.loop-i-test.false, c.loop-i.auto.i-end, c.len-i-end.ensures, spans.list.ok.0) in
-    all_reached edges classes flags s.len front is_last spans c.loop-i.reached c.sort.new.self c.requires.some c.requires.short (λ ends. eqb-true _ _ ends) c.requires.spans
-    (subst (λ n. AreFollowed edges classes flags is_last spans n c.loop-i.reached) whole c.loop-i.invariant) c.sort.ensures.keep c.sort.ensures.ordered
+    all_reached s.mode edges classes flags s.len front is_last spans c.loop-i.reached c.sort.new.self c.requires.some c.requires.short (λ ends. eqb-true _ _ ends) c.requires.spans
+    (subst (λ n. AreFollowed s.mode edges classes flags is_last spans n c.loop-i.reached) whole c.loop-i.invariant) c.sort.ensures.keep c.sort.ensures.ordered

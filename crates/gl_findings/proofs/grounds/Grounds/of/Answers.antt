@@ -42,6 +42,6 @@ returns c = λ before mode len keeps. record {
   held_by = search rules;
   closed_by = search rules;
   begin =
-      let begins = c.in_ok-begins.ensures len in
+      let begins = c.in_ok-begins.ensures mode len in
       rw (c.entries-6.ensures.pairs, c.deref-11.ensures.value, c.deref-12.ensures.value, c.in_ok-classes.ensures.classes, c.entries.ensures.pairs) at begins;
 }
