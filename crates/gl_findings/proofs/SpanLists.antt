@@ -63,7 +63,7 @@ at_or_behind list from place ordered low span (k, within, is) reached =
       | inr behind ↦
           let there : place < length list = omega (arith, within, behind) in (
             there,
-            λ d. omega (arith, ordered place k d behind within, of_any list k within span d same)
+            λ d. omega (arith, ordered place k d behind within, of_any list k within span d same),
           )
     ]
   where

@@ -62,7 +62,6 @@ keep_on a b c one more = record {
   stay = λ span is. more.stay span (one.stay span is);
 }
 
-
 module _ (mode : Mode) (edges : List Edge) (classes : List ℕ) (flags : List Bool) (is_last : Bool) (span : Span) where
   -- what has its span keeps it
   pub goes_on_still : (old new : Spans) → StayIn old.list.items new.list.items → (place : ℕ) (f : Edge) → GoesOnAt mode edges classes flags is_last span old place f → GoesOnAt mode edges classes flags is_last span new place f

@@ -338,7 +338,8 @@ impl Finder<'_> {
     }
 
     // Whether a signature of a cycle may begin so: no thread would have to run two classes alone, and models show
-    // a walk. For one that has no room for more classes a round is looked for, where its spans are known.
+    // a walk. Where its spans are known none is looked for that would be found for certain, and where it has no room for more
+    // classes either: a round is looked for then.
     fn may_begin(
         &self,
         alloc: Global,
@@ -357,7 +358,7 @@ impl Finder<'_> {
         if is_run_twice(self.runners, front) {
             return Ok(false);
         }
-        if spans.are_all && front.len() == self.len {
+        if spans.are_exact(front.len()) || spans.are_all && front.len() == self.len {
             return Ok(true);
         }
         let walk = self.fronts.first(alloc, front, steps)?;

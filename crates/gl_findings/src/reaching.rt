@@ -42,6 +42,7 @@ impl Finder<'_> {
             if !reached.are_all {
                 return Ok(Spans::unknown(alloc));
             }
+            spend_step(self.is_bound, steps)?;
             self.add_after(&spans.list[i], is_last, &mut looks, steps, &mut reached)?;
         }
         reached.sort();
@@ -60,8 +61,9 @@ impl Finder<'_> {
         requires ready { IsReady self.now }
         ensures keep { OnOk result (KeepSpans reached.old reached.new) }
         ensures added { OnOk result
-            (GoesOn self.now.mode (edges_of_table self.now.table.now) (classes_of self.now.table.now)
-            self.now.fronts.ground.flags.now is_last span.now reached.new) }
+            (GoesOn self.now.mode (edges_of_table self.now.table.now)
+            (classes_of self.now.table.now) self.now.fronts.ground.flags.now is_last
+            span.now reached.new) }
         ensures stopped { IfErr result (λ stop. IsUnbound self.now → stop ≡ Memory) }
     {
         if is_last {
@@ -83,8 +85,9 @@ impl Finder<'_> {
         requires ready { IsReady self.now }
         ensures keep { OnOk result (KeepSpans reached.old reached.new) }
         ensures added { OnOk result
-            (GoesOn self.now.mode (edges_of_table self.now.table.now) (classes_of self.now.table.now)
-            self.now.fronts.ground.flags.now false span.now reached.new) }
+            (GoesOn self.now.mode (edges_of_table self.now.table.now)
+            (classes_of self.now.table.now) self.now.fronts.ground.flags.now false
+            span.now reached.new) }
         ensures stopped { IfErr result (λ stop. IsUnbound self.now → stop ≡ Memory) }
     {
         let mut next = self.holders.begin(span.wanted);
@@ -112,8 +115,9 @@ impl Finder<'_> {
         requires ready { IsReady self.now }
         ensures keep { OnOk result (KeepSpans reached.old reached.new) }
         ensures added { OnOk result
-            (GoesOn self.now.mode (edges_of_table self.now.table.now) (classes_of self.now.table.now)
-            self.now.fronts.ground.flags.now true span.now reached.new) }
+            (GoesOn self.now.mode (edges_of_table self.now.table.now)
+            (classes_of self.now.table.now) self.now.fronts.ground.flags.now true
+            span.now reached.new) }
         ensures stopped { IfErr result (λ stop. IsUnbound self.now → stop ≡ Memory) }
     {
         let mut next = self.closers.begin(span.wanted, span.held);

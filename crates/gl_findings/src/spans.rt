@@ -16,6 +16,9 @@ use gl_event::{LockId, LockMode, Memory};
 use gl_filters::waits_for;
 use std::alloc::Global;
 
+// Up to how many edges each two of a chain stand side by side, or at both ends.
+const EXACT: usize = 3;
+
 /// The ends of a chain of models: where its first edge and its last one stand, what the first holds, and what the last wants.
 /// And the class of the last.
 #[derive(Clone, Copy)]
@@ -136,8 +139,8 @@ impl Spans {
         requires within { from ≤ size }
         ensures from { from ≤ result }
         ensures within { result ≤ size }
-        ensures skipped { (span : Span) → Contains self.now.list.items span → from ≤ span.class
-            → ¬ (span.class < result) }
+        ensures skipped { (span : Span) → Contains self.now.list.items span
+            → from ≤ span.class → ¬ (span.class < result) }
     {
         let place = count_below(&self.list, from);
         if place >= self.list.len() {
@@ -159,6 +162,12 @@ impl Spans {
         let list = copied(alloc, &self.list, begin, end)?;
         let are_all = self.are_all;
         Ok(Spans { list, are_all })
+    }
+
+    /// Whether for a front of so many classes these say all that a search for a walk would: each two edges of its chains stand side
+    /// by side, or at both ends.
+    pub(crate) fn are_exact(&self, len: usize) -> bool {
+        self.are_all && len <= EXACT
     }
 
     /// Whether a chain may lead back to where it begins, as far as is known.
@@ -185,7 +194,8 @@ fn copied(alloc: Global, list: &[Span], begin: usize, end: usize) -> Result<Vec<
 
 // Whether one of the spans is round.
 fn any_is_round(list: &[Span]) -> bool
-    ensures { result ≡ false → (span : Span) → Contains list.now span → is_round span ≡ false }
+    ensures { result ≡ false → (span : Span) → Contains list.now span
+        → is_round span ≡ false }
 {
     for i in 0..list.len() {
         if list[i].is_round() {

@@ -27,4 +27,5 @@ pub record AreGrounds (before : Segment → Segment → Bool) (mode : Mode) (len
   pub pass : ArePassages (edges_of_table table) (classes_of table) g.models.items g.passages
   pub held_by : AreChainedKept Leader (edges_of_table table) g.models.items 0 g.holders
   pub closed_by : AreClosers (edges_of_table table) g.models.items 0 g.closers
-  pub begin : AreReached mode (edges_of_table table) (classes_of table) g.models.items len [] g.begins
+  pub begin : AreReached mode (edges_of_table table) (classes_of table) g.models.items len []
+      g.begins
