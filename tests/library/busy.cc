@@ -14,7 +14,6 @@
 #include "checks.hpp"
 
 #include <fstream>
-#include <iterator>
 #include <sched.h>
 #include <sys/syscall.h>
 #include <unistd.h>
@@ -56,7 +55,8 @@ static pid_t own_number()
 static char state_of(pid_t thread)
 {
     std::ifstream file("/proc/self/task/" + std::to_string(thread) + "/stat");
-    const std::string text{std::istreambuf_iterator<char>(file), {}};
+    std::string text; // none where the thread ends meanwhile: then the file can't be read
+    std::getline(file, text);
     const std::size_t name_end = text.rfind(')');
     return name_end == std::string::npos ? 'X' : text[name_end + 2];
 }
