@@ -151,8 +151,11 @@ def sleeping_threads(process):
     """How often each thread of a process went to sleep so far, by number; nothing where one doesn't sleep."""
     found = {}
     for thread in os.listdir("/proc/%d/task" % process):
-        with open("/proc/%d/task/%s/status" % (process, thread)) as file:
-            words = dict(line.split(":", 1) for line in file if ":" in line)
+        try:
+            with open("/proc/%d/task/%s/status" % (process, thread)) as file:
+                words = dict(line.split(":", 1) for line in file if ":" in line)
+        except OSError:  # it ends just now
+            return None
         if words["State"].split()[0] != "S":
             return None
         found[thread] = int(words["voluntary_ctxt_switches"])
