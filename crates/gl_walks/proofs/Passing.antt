@@ -11,8 +11,8 @@ use Rattle.gl_filters.specs.Test.{leads_to, lead_on, leads_back, last_of, goes_w
 use Rattle.gl_filters.proofs.Cycling.{leads_same}
 use Rattle.gl_filters.proofs.Paths.{list_all_push, is_path_push}
 use Rattle.gl_walks.specs.declared.purpose.Purpose.{Purpose}
-use Rattle.gl_walks.specs.declared.purpose.Purpose.TheVariants.{Cycle, Front, Round}
-use Rattle.gl_walks.specs.Walks.{kinds_together, is_front, fits}
+use Rattle.gl_walks.specs.declared.purpose.Purpose.TheVariants.{Cycle, Front, Round, Ring}
+use Rattle.gl_walks.specs.Walks.{together, is_front, is_chain, fits}
 use Rattle.gl_walks.specs.bodies.Fronts.{goes_by, may_follow, passes, may_end}
 
 and_four : (a b c d : Bool) → ((a && b) && (c && d)) ≡ ((a && c) && (b && d))
@@ -34,22 +34,38 @@ lead_on_push : (e : Edge) (es : List Edge) (f : Edge) → lead_on ((e ∷ es) ++
 lead_on_push e [] f = and_true (leads_to e f)
 lead_on_push e (d ∷ es) f = ap (λ b. leads_to e d && b) (lead_on_push d es f) ∙ sym (and_assoc (leads_to e d) (lead_on (d ∷ es)) (leads_to (last_of d es) f))
 
--- one more edge whose kind goes with the others
-kinds_together_push : (mode : Mode) (es : List Edge) (f : Edge) → kinds_together mode (es ++ f ∷ []) ≡ (kinds_together mode es && list_all (λ d. kinds_go_together mode d f) es)
-kinds_together_push mode [] f = refl
-kinds_together_push mode (e ∷ es) f =
-    (λ i. list_all_push (kinds_go_together mode e) es f i && kinds_together_push mode es f i)
-    ∙ and_four (list_all (kinds_go_together mode e) es) (kinds_go_together mode e f) (kinds_together mode es) (list_all (λ d. kinds_go_together mode d f) es)
+-- one more edge that goes with the others
+together_push : (goes : Edge → Edge → Bool) (es : List Edge) (f : Edge) → together goes (es ++ f ∷ []) ≡ (together goes es && list_all (λ d. goes d f) es)
+together_push goes [] f = refl
+together_push goes (e ∷ es) f =
+    (λ i. list_all_push (goes e) es f i && together_push goes es f i)
+    ∙ and_four (list_all (goes e) es) (goes e f) (together goes es) (list_all (λ d. goes d f) es)
+
+-- an edge may come next: that the last one leads on to, and that goes with all
+abbrev follows : (Edge → Edge → Bool) → List Edge → Edge → Bool
+follows goes [] f = true
+follows goes (e ∷ es) f = leads_to (last_of e es) f && (list_all (λ d. goes d f) (e ∷ es) && true)
+
+-- edges that lead on to each other and go together do so with one more exactly where it may come next
+led_push : (goes : Edge → Edge → Bool) (es : List Edge) (f : Edge) → (lead_on (es ++ f ∷ []) && together goes (es ++ f ∷ [])) ≡ ((lead_on es && together goes es) && follows goes es f)
+led_push goes [] f = refl
+led_push goes (e ∷ es) f =
+    (λ i. lead_on_push e es f i && together_push goes (e ∷ es) f i)
+    ∙ and_four (lead_on (e ∷ es)) (leads_to (last_of e es) f) (together goes (e ∷ es)) (list_all (λ d. goes d f) (e ∷ es))
+    ∙ ap (λ b. (lead_on (e ∷ es) && together goes (e ∷ es)) && (leads_to (last_of e es) f && b)) (sym (and_true (list_all (λ d. goes d f) (e ∷ es))))
 
 module _ (before : Segment → Segment → Bool) (mode : Mode) where
-  -- one more edge makes a front of a front exactly where it may follow
-  is_front_push : (es : List Edge) (f : Edge) → is_front mode (es ++ f ∷ []) ≡ (is_front mode es && may_follow Front before mode es f)
-  unfolding is_front
-  is_front_push [] f = refl
-  is_front_push (e ∷ es) f =
-      (λ i. lead_on_push e es f i && kinds_together_push mode (e ∷ es) f i)
-      ∙ and_four (lead_on (e ∷ es)) (leads_to (last_of e es) f) (kinds_together mode (e ∷ es)) (list_all (λ d. kinds_go_together mode d f) (e ∷ es))
-      ∙ ap (λ b. (lead_on (e ∷ es) && kinds_together mode (e ∷ es)) && (leads_to (last_of e es) f && b)) (sym (and_true (list_all (λ d. kinds_go_together mode d f) (e ∷ es))))
+  follows_front : (es : List Edge) (f : Edge) → follows (kinds_go_together mode) es f ≡ may_follow Front before mode es f
+  follows_front [] f = refl
+  follows_front (e ∷ es) f = refl
+
+  follows_round : (es : List Edge) (f : Edge) → follows (kinds_go_together mode) es f ≡ may_follow Round before mode es f
+  follows_round [] f = refl
+  follows_round (e ∷ es) f = refl
+
+  follows_ring : (es : List Edge) (f : Edge) → follows (goes_with before mode) es f ≡ may_follow Ring before mode es f
+  follows_ring [] f = refl
+  follows_ring (e ∷ es) f = refl
 
   follows_path : (es : List Edge) (f : Edge) → can_follow before mode es f ≡ may_follow Cycle before mode es f
   unfolding can_follow
@@ -57,13 +73,11 @@ module _ (before : Segment → Segment → Bool) (mode : Mode) where
   follows_path (e ∷ es) f = refl
 
   pub passes_push : (purpose : Purpose) (es : List Edge) (f : Edge) → passes purpose before mode (es ++ f ∷ []) ≡ (passes purpose before mode es && may_follow purpose before mode es f)
+  unfolding is_front is_chain
   passes_push Cycle es f = is_path_push before mode es f ∙ ap (λ b. is_path before mode es && b) (follows_path es f)
-  passes_push Front es f = is_front_push es f
-  passes_push Round es f = is_front_push es f ∙ ap (λ b. is_front mode es && b) (same_follows es f)
-    where
-      same_follows : (es : List Edge) (f : Edge) → may_follow Front before mode es f ≡ may_follow Round before mode es f
-      same_follows [] f = refl
-      same_follows (e ∷ es) f = refl
+  passes_push Front es f = led_push (kinds_go_together mode) es f ∙ ap (λ b. is_front mode es && b) (follows_front es f)
+  passes_push Round es f = led_push (kinds_go_together mode) es f ∙ ap (λ b. is_front mode es && b) (follows_round es f)
+  passes_push Ring es f = led_push (goes_with before mode) es f ∙ ap (λ b. is_chain before mode es && b) (follows_ring es f)
 
   -- a front of what passes does
   pub passes-front : (purpose : Purpose) (es fs : List Edge) → passes purpose before mode (es ++ fs) ≡ true → passes purpose before mode es ≡ true
@@ -77,10 +91,11 @@ module _ (before : Segment → Segment → Bool) (mode : Mode) where
 
   -- nothing passes no less
   pub passes_none : (purpose : Purpose) → passes purpose before mode [] ≡ true
-  unfolding is_path is_front
+  unfolding is_path is_front is_chain
   passes_none Cycle = refl
   passes_none Front = refl
   passes_none Round = refl
+  passes_none Ring = refl
 
   -- what fits passes and may end
   pub fits_parts : (purpose : Purpose) (es : List Edge) → fits purpose before mode es ≡ true → (passes purpose before mode es ≡ true) × (may_end purpose es ≡ true)
@@ -91,6 +106,7 @@ module _ (before : Segment → Segment → Bool) (mode : Mode) where
       (round.0, and_from _ _ long.0 round.1)
   fits_parts Front es fitting = (fitting, refl)
   fits_parts Round es fitting = and_parts (is_front mode es) (leads_back es) fitting
+  fits_parts Ring es fitting = and_parts (is_chain before mode es) (leads_back es) fitting
 
   -- and the other way round
   pub fits_from : (purpose : Purpose) (es : List Edge) → passes purpose before mode es ≡ true → may_end purpose es ≡ true → fits purpose before mode es ≡ true
@@ -100,6 +116,7 @@ module _ (before : Segment → Segment → Bool) (mode : Mode) where
       and_from _ _ parts.0 (and_from _ _ passing parts.1)
   fits_from Front es passing ends = passing
   fits_from Round es passing ends = and_from _ _ passing ends
+  fits_from Ring es passing ends = and_from _ _ passing ends
 
   -- an edge that follows holds the lock which the last one wants
   pub led_on : (purpose : Purpose) (e : Edge) (es : List Edge) (f : Edge) → may_follow purpose before mode (e ∷ es) f ≡ true → (last_of e es).wanted ≡ f.held
@@ -110,6 +127,7 @@ module _ (before : Segment → Segment → Bool) (mode : Mode) where
   held_differ Cycle e f goes same = false≢true (sym (not_from_true _ (eq-eqb _ _ same)) ∙ (and_parts _ _ (and_parts _ _ goes).0).0)
   held_differ Front e f goes same = false≢true (sym (not_from_true _ (eq-eqb _ _ same)) ∙ (and_parts _ _ goes).0)
   held_differ Round e f goes same = false≢true (sym (not_from_true _ (eq-eqb _ _ same)) ∙ (and_parts _ _ goes).0)
+  held_differ Ring e f goes same = false≢true (sym (not_from_true _ (eq-eqb _ _ same)) ∙ (and_parts _ _ (and_parts _ _ goes).0).0)
 
   -- nothing follows where the last edge leads back to the first
   pub none_behind_closed : (purpose : Purpose) (es : List Edge) (f : Edge) → leads_back es ≡ true → may_follow purpose before mode es f ≡ true → ⊥

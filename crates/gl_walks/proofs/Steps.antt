@@ -1,6 +1,6 @@
 -- The search for the least walk, step by step.
 use Rattle.std.proofs.Common.{◌≡◌, ◌≢◌, ℕ, ◌+◌, ◌<◌, Bool, true, false, List, [], ◌∷◌, ◌++◌, length, map, take, get_or, Option, Some, None, refl, sym, ap, subst, ◌∙◌, arith, inl, inr}
-use Rattle.std.specs.Prelude.{slice_get, unwrap_or, All, IsTrue}
+use Rattle.std.specs.Prelude.{◌-◌, ◌≤◌, slice_get, unwrap_or, is_some, All, IsTrue, MatchOption}
 use Rattle.std.specs.Option.{option_map}
 use Rattle.std.specs.Ordering.{nat_cmp, is_le}
 use Rattle.std.specs.Cmp.Lexicographic.{slice_cmp}
@@ -12,8 +12,9 @@ use Rattle.gl_edges.specs.declared.edge.Edge.{Edge}
 use Rattle.gl_filters.specs.Picked.{picked}
 use Rattle.gl_filters.specs.Test.{leads_back}
 use Rattle.gl_walks.specs.declared.keys.Keyed.{Keyed}
+use Rattle.gl_walks.specs.declared.keys.Keyed.TheVariants.{ByClass, ByLock}
 use Rattle.gl_walks.specs.bodies.Listing.{Key, IsNext, key_at, key_of, lock_in_key}
-use Rattle.gl_walks.specs.bodies.Fronts.{Sought, IsSought, IsEven, IsFront, NoneFrom, IsLeastFrom, HasPassed, keyed_after, lock_after, key_after, key_behind, may_follow, passes, may_end}
+use Rattle.gl_walks.specs.bodies.Fronts.{Sought, IsSought, IsEven, IsFront, NoneFrom, IsLeastFrom, HasPassed, HasFrom, HasPassedFrom, start_key, key_by_lock, keyed_after, lock_after, key_after, key_behind, may_follow, passes, may_end}
 use Rattle.gl_walks.proofs.Lesser.{le_behind, lesser_behind}
 use Rattle.gl_walks.proofs.Passing.{passes_push, passes-front, passes_none, fits_parts, fits_from, led_on, none_behind_closed}
 use Rattle.gl_walks.proofs.Places.{element_at, at_behind, picked-append, picked-push, picked-cons}
@@ -34,6 +35,19 @@ key_parts keyed (Some e) (Some c) (Some false) k is = absurd (cc)
 key_parts keyed (Some e) (Some c) None k is = absurd (cc)
 key_parts keyed (Some e) None flag k is = absurd (cc)
 key_parts keyed None class flag k is = absurd (cc)
+
+-- and the edge, where it has a lock
+record LockParts (edge : Option Edge) (k : Key) : Type 0 where
+  pub edge_there : Edge
+  pub stands : edge ≡ Some edge_there
+  pub holds : Some edge_there.held ≡ k.1
+
+lock_parts : (edge : Option Edge) (class : Option ℕ) (flag : Option Bool) (k : Key) → key_of ByLock edge class flag ≡ Some k → LockParts edge k
+lock_parts (Some e) (Some c) (Some true) k is = record { edge_there = e; stands = refl; holds = ap (λ x. x.1) (same_Some _ k is) }
+lock_parts (Some e) (Some c) (Some false) k is = absurd (cc)
+lock_parts (Some e) (Some c) None k is = absurd (cc)
+lock_parts (Some e) None flag k is = absurd (cc)
+lock_parts None class flag k is = absurd (cc)
 
 -- the key of a flagged edge of a class
 key_from : (keyed : Keyed) (edge : Option Edge) (class : Option ℕ) (flag : Option Bool) (e : Edge) (c : ℕ) → edge ≡ Some e → class ≡ Some c → flag ≡ Some true → key_of keyed edge class flag ≡ Some (c, lock_in_key keyed e)
@@ -235,3 +249,75 @@ module _ (s : Sought) where
     of_classes = refl;
     passing = passes_none s.before s.mode s.purpose;
   }
+
+module _ (s : Sought) (lock : ℕ) where
+  -- an edge that is looked up by its lock has the key of a first one
+  pub starts : (i : ℕ) → key_by_lock s i ≡ Some (start_key s lock) → key_behind s [] i ≡ Some (key_after s [])
+  unfolding key_at
+  starts i has =
+      let parts = key_parts ByLock (slice_get s.edges i) (slice_get s.classes i) (slice_get s.flags i) (start_key s lock) has in
+      let held = lock_parts (slice_get s.edges i) (slice_get s.classes i) (slice_get s.flags i) (start_key s lock) has in
+      key_from ByClass _ _ _ held.edge_there (start_key s lock).0 held.stands parts.of_class parts.flagged
+
+  -- before any position is passed
+  pub passed_none : (next : Option ℕ) → IsNext (key_by_lock s) (length s.edges) (start_key s lock) 0 next → HasPassedFrom s lock next
+  passed_none next is = record {
+    within = is.within;
+    has = is.has;
+    none = λ i below has. absurd (is.skipped i (omega arith) below has);
+  }
+
+  -- one position more
+  pub passed_one : (i : ℕ) (next : Option ℕ) → HasPassedFrom s lock (Some i) → NoneFrom s (i ∷ []) → IsNext (key_by_lock s) (length s.edges) (start_key s lock) (i + 1) next → HasPassedFrom s lock next
+  passed_one i next had none later = record {
+    within = later.within;
+    has = later.has;
+    none = λ j below has.
+        elim (cases_order j i) [
+          | inl same ↦ subst (λ k. NoneFrom s (k ∷ [])) (sym same) none
+          | inr (inl lesser) ↦ had.none j lesser has
+          | inr (inr greater) ↦ absurd (later.skipped j (omega arith) below has)
+        ];
+  }
+
+  -- all are passed
+  pub passed_each : IsEven s → HasPassedFrom s lock None → 0 < length s.pattern → ¬ HasFrom s lock
+  unfolding key_at
+  passed_each even had some has = by has.positions has.walk has.first has.begins has.holds
+    where
+      by : (walk : List ℕ) → IsSought s walk → (e : Edge) → slice_get (picked s.edges walk) 0 ≡ Some e → e.held ≡ lock → ⊥
+      by [] walks e begins holds = absurd (omega (arith, as_long s [] walks, some))
+      by (i ∷ rest) walks e begins holds =
+          let on = goes_on s even [] i rest walks in
+          let first : on.edge ≡ e = same_Some on.edge e (sym (ap (λ l. slice_get l 0) (picked-cons s.edges i rest on.edge on.stands)) ∙ begins) in
+          let has = key_from ByLock _ _ _ on.edge on.class on.stands on.of_class on.flagged ∙ ap Some (λ j. (sym (ap (λ o. unwrap_or o 0) on.asked) j, Some ((ap (λ d. d.held) first ∙ holds) j))) in
+          had.none i (slice_get_within s.edges i on.edge on.stands) has rest walks
+
+  -- a walk was found that begins so
+  pub begins_from : (i : ℕ) (walk : List ℕ) → key_by_lock s i ≡ Some (start_key s lock) → IsLeastFrom s (i ∷ []) walk → HasFrom s lock
+  unfolding key_at
+  begins_from i walk has found =
+      let held = lock_parts (slice_get s.edges i) (slice_get s.classes i) (slice_get s.flags i) (start_key s lock) has in
+      record {
+        positions = walk;
+        walk = found.walks;
+        first = held.edge_there;
+        begins = ap (λ l. slice_get (picked s.edges l) 0) found.begins ∙ ap (λ l. slice_get l 0) (picked-cons s.edges i found.rest held.edge_there held.stands);
+        holds = same_Some held.edge_there.held lock held.holds;
+      }
+
+-- fewer positions are left behind a later one
+pub closer : (n m i : ℕ) (now next : Option ℕ) → m ≡ n → now ≡ Some i → i < unwrap_or next m → unwrap_or next m ≤ m → n - unwrap_or next n < n - unwrap_or now n
+closer n m i now next same is before within =
+    let here : unwrap_or now n ≡ i = ap (λ o. unwrap_or o n) is in
+    let there : unwrap_or next m ≡ unwrap_or next n = ap (unwrap_or next) same in
+    omega arith
+
+-- what was found, or that there is nothing
+pub where_some : {V : Type 0} (o : Option V) (N : Type 0) (P : V → Type 0) → MatchOption o N P → is_some o ≡ true → (v : V) × P v
+where_some (Some v) N P is some = (v, is)
+where_some None N P is some = absurd (false≢true some)
+
+pub where_none : {V : Type 0} (o : Option V) (N : Type 0) (P : V → Type 0) → MatchOption o N P → is_some o ≡ false → N
+where_none None N P is none = is
+where_none (Some v) N P is none = absurd (false≢true (sym none))

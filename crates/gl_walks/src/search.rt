@@ -8,14 +8,14 @@ ghost use Rattle.gl_filters.specs.Test.{leads_back};
 ghost use Rattle.gl_filters.specs.declared.steps.Stop.TheVariants.{Memory, Spent};
 ghost use Rattle.gl_filters.specs.declared.lengths.TheConstants.{LONGEST};
 ghost use Rattle.gl_walks.specs.bodies.Listing.{Key, IsNext};
-ghost use Rattle.gl_walks.specs.bodies.Fronts.{goes_by, stays_above, may_follow, may_end, sought_by, IsFront, NoneFrom, IsLeastFrom, key_after, key_behind, IsIndexed};
+ghost use Rattle.gl_walks.specs.bodies.Fronts.{goes_by, stays_above, may_follow, may_end, sought_by, IsFront, NoneFrom, IsLeastFrom, HasFrom, key_after, key_behind, IsIndexed};
 
 use crate::chains::Chain;
 use crate::ground::Ground;
 use crate::keys::Keyed;
 use crate::purpose::Purpose;
 use gl_edges::Edge;
-use gl_event::Memory;
+use gl_event::{LockId, Memory};
 use gl_filters::{Stop, goes_with, kinds_go_together, leads_on, longer_path, spend_step};
 use std::alloc::Global;
 
@@ -66,7 +66,7 @@ impl Search<'_> {
             self.now.area.mode e.now f.now }
     {
         match self.purpose {
-            Purpose::Cycle => goes_with(self.area.mode, self.area.order, e, f),
+            Purpose::Cycle | Purpose::Ring => goes_with(self.area.mode, self.area.order, e, f),
             Purpose::Front | Purpose::Round => kinds_go_together(self.area.mode, e, f),
         }
     }
@@ -94,7 +94,7 @@ impl Search<'_> {
     {
         match self.purpose {
             Purpose::Cycle => first.thread.number() <= edge.thread.number(),
-            Purpose::Front | Purpose::Round => true,
+            Purpose::Front | Purpose::Round | Purpose::Ring => true,
         }
     }
 
@@ -150,7 +150,7 @@ impl Search<'_> {
                 self.is_closed(path)
             }
             Purpose::Front => true,
-            Purpose::Round => self.is_closed(path),
+            Purpose::Round | Purpose::Ring => self.is_closed(path),
         }
     }
 
@@ -204,6 +204,37 @@ impl Search<'_> {
         ensures fewer { steps.new ≤ steps.old }
     {
         self.grow(alloc, pattern, &[], steps)
+    }
+
+    /// Whether there is a walk for a pattern whose first edge holds this lock. Each edge that may come next
+    /// takes a step.
+    pub(crate) fn has_from(
+        &self,
+        alloc: Global,
+        pattern: &[usize],
+        lock: LockId,
+        steps: &mut usize,
+    ) -> Result<bool, Stop>
+        requires some { 0 < length pattern.now }
+        requires fits { length pattern.now ≤ LONGEST }
+        ensures has { IfOk result
+            (λ has. has ≡ true
+            → HasFrom (sought_by self.now.area self.now.purpose pattern.now) lock) }
+        ensures none { IfOk result
+            (λ has. has ≡ false
+            → ¬ HasFrom (sought_by self.now.area self.now.purpose pattern.now) lock) }
+        ensures stopped { IfErr result (λ stop. self.now.is_bound ≡ false → stop ≡ Memory) }
+        ensures spent { IfErr result (λ stop. stop ≡ Spent → steps.new ≡ 0) }
+        ensures fewer { steps.new ≤ steps.old }
+    {
+        let mut next = self.by_lock.begin(pattern[0], Some(lock));
+        while let Some(i) = next {
+            if self.grow_by(alloc, pattern, &[], i, steps)?.is_some() {
+                return Ok(true);
+            }
+            next = self.by_lock.after(i);
+        }
+        Ok(false)
     }
 
     // The first walk that begins with the path.

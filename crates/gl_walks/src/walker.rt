@@ -1,15 +1,15 @@
 //! The search for a walk through edges of given classes.
-ghost use Rattle.std.specs.Prelude.{◌≡◌, ◌<◌, ◌≤◌, false, length, IfErr, IfOk, MatchOption};
+ghost use Rattle.std.specs.Prelude.{◌≡◌, ◌<◌, ◌≤◌, true, false, length, IfErr, IfOk, MatchOption};
 ghost use Rattle.gl_segments.specs.Clocks.{is_before};
 ghost use Rattle.gl_filters.specs.Picked.{edges_of_table};
 ghost use Rattle.gl_filters.specs.declared.steps.Stop.TheVariants.{Memory, Spent};
 ghost use Rattle.gl_filters.specs.declared.lengths.TheConstants.{LONGEST};
-ghost use Rattle.gl_walks.specs.Walks.{NoWalk, IsFirstWalk};
+ghost use Rattle.gl_walks.specs.Walks.{NoWalk, IsFirstWalk, HasWalkFrom};
 
 use crate::ground::Ground;
 use crate::purpose::Purpose;
 use crate::search::Search;
-use gl_event::Memory;
+use gl_event::{LockId, Memory};
 use gl_filters::Stop;
 use std::alloc::Global;
 use std::marker::Model;
@@ -83,5 +83,37 @@ impl<'a> Walker<'a> {
         ensures fewer { steps.new ≤ steps.old }
     {
         self.search.first(alloc, pattern, steps)
+    }
+    /// Whether there is a walk for a pattern whose first edge holds this lock. What it takes is what
+    /// [`first`](Walker::first) takes from the edges on that are of the first class and hold it.
+    ///
+    /// # Errors
+    ///
+    /// [`Stop::Spent`] where no step is left and the walker is bound to them; [`Stop::Memory`] where memory
+    /// was refused, which is asked only for the walk that was found.
+    pub fn has_from(
+        &self,
+        alloc: Global,
+        pattern: &[usize],
+        lock: LockId,
+        steps: &mut usize,
+    ) -> Result<bool, Stop>
+        requires some { 0 < length pattern.now }
+        requires fits { length pattern.now ≤ LONGEST }
+        ensures has { IfOk result
+            (λ has. has ≡ true
+            → HasWalkFrom self.now.purpose (is_before self.now.ground.order.now)
+            self.now.ground.mode (edges_of_table self.now.ground.table.now)
+            self.now.ground.classes.now self.now.ground.flags.now pattern.now lock) }
+        ensures none { IfOk result
+            (λ has. has ≡ false
+            → ¬ HasWalkFrom self.now.purpose (is_before self.now.ground.order.now)
+            self.now.ground.mode (edges_of_table self.now.ground.table.now)
+            self.now.ground.classes.now self.now.ground.flags.now pattern.now lock) }
+        ensures stopped { IfErr result (λ stop. self.now.is_bound ≡ false → stop ≡ Memory) }
+        ensures spent { IfErr result (λ stop. stop ≡ Spent → steps.new ≡ 0) }
+        ensures fewer { steps.new ≤ steps.old }
+    {
+        self.search.has_from(alloc, pattern, lock, steps)
     }
 }

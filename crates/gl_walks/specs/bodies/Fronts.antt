@@ -13,9 +13,9 @@ use Rattle.gl_walks.specs.declared.chains.Chain.{Chain}
 use Rattle.gl_walks.specs.declared.keys.Keyed.{Keyed}
 use Rattle.gl_walks.specs.declared.keys.Keyed.TheVariants.{ByClass, ByLock}
 use Rattle.gl_walks.specs.declared.purpose.Purpose.{Purpose}
-use Rattle.gl_walks.specs.declared.purpose.Purpose.TheVariants.{Cycle, Front, Round}
+use Rattle.gl_walks.specs.declared.purpose.Purpose.TheVariants.{Cycle, Front, Round, Ring}
 use Rattle.gl_walks.specs.declared.ground.Ground.{Ground}
-use Rattle.gl_walks.specs.Walks.{is_front, IsWalk}
+use Rattle.gl_walks.specs.Walks.{is_front, is_chain, IsWalk, HasWalkFrom}
 use Rattle.gl_walks.specs.bodies.Listing.{Key, key_at, IsChain}
 
 -- the two edges may stand in one walk
@@ -23,12 +23,14 @@ abbrev pub goes_by : Purpose → (Segment → Segment → Bool) → Mode → Edg
 goes_by Cycle before mode e f = goes_with before mode e f
 goes_by Front before mode e f = kinds_go_together mode e f
 goes_by Round before mode e f = kinds_go_together mode e f
+goes_by Ring before mode e f = goes_with before mode e f
 
 -- the second edge may stand in a walk that begins with the first
 abbrev pub stays_above : Purpose → Edge → Edge → Bool
 stays_above Cycle e f = nat_le e.thread f.thread
 stays_above Front e f = true
 stays_above Round e f = true
+stays_above Ring e f = true
 
 -- the edge may come next in a walk
 abbrev pub may_follow : Purpose → (Segment → Segment → Bool) → Mode → List Edge → Edge → Bool
@@ -42,12 +44,14 @@ abbrev pub passes : Purpose → (Segment → Segment → Bool) → Mode → List
 passes Cycle before mode es = is_path before mode es
 passes Front before mode es = is_front mode es
 passes Round before mode es = is_front mode es
+passes Ring before mode es = is_chain before mode es
 
 -- they may be all of it
 abbrev pub may_end : Purpose → List Edge → Bool
 may_end Cycle es = nat_le 2 (length es) && leads_back es
 may_end Front es = true
 may_end Round es = leads_back es
+may_end Ring es = leads_back es
 
 -- what is looked for
 pub record Sought : Type 0 where
@@ -129,6 +133,28 @@ pub record HasPassed (s : Sought) (front : List ℕ) (next : Option ℕ) : Type 
   pub has : (i : ℕ) → next ≡ Some i → (i < length s.edges)
       × (key_behind s front i ≡ Some (key_after s front))
   pub none : (i : ℕ) → i < unwrap_or next (length s.edges) → NoneFrom s (front ++ i ∷ [])
+
+-- there is a walk whose first edge holds this lock
+abbrev pub HasFrom : Sought → ℕ → Type 0
+HasFrom s lock =
+    HasWalkFrom s.purpose s.before s.mode s.edges s.classes s.flags s.pattern lock
+
+-- the key by which the first edge of such a walk is looked up
+abbrev pub start_key : Sought → ℕ → Key
+start_key s lock = (unwrap_or (slice_get s.pattern 0) 0, Some lock)
+
+-- the key of the edge at a position, by the lock that it holds
+abbrev pub key_by_lock : Sought → ℕ → Option Key
+key_by_lock s = key_at ByLock s.edges s.classes s.flags
+
+-- none begins with a position before the next one
+pub record HasPassedFrom (s : Sought) (lock : ℕ) (next : Option ℕ) : Type 0 where
+  pub within : unwrap_or next (length s.edges) ≤ length s.edges
+  -- the next one has the key that is looked up
+  pub has : (i : ℕ) → next ≡ Some i → (i < length s.edges)
+      × (key_by_lock s i ≡ Some (start_key s lock))
+  pub none : (i : ℕ) → i < unwrap_or next (length s.edges)
+      → key_by_lock s i ≡ Some (start_key s lock) → NoneFrom s (i ∷ [])
 
 -- the edges of the ground are in the chain by their keys
 abbrev pub IsChainOf : Keyed → Ground → Chain → Type 0

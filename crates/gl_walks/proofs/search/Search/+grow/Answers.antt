@@ -1,12 +1,12 @@
-use Rattle.std.proofs.Common.{◌≡◌, ℕ, ◌+◌, ◌-◌, ◌<◌, ◌≤◌, List, [], ◌∷◌, ◌++◌, length, Option, Some, sym, ap, subst, ◌∙◌, arith, rules}
-use Rattle.std.specs.Prelude.{unwrap_or, MatchOption}
+use Rattle.std.proofs.Common.{◌≡◌, ℕ, ◌+◌, ◌<◌, List, [], ◌∷◌, ◌++◌, length, sym, ap, subst, ◌∙◌, arith, rules}
+use Rattle.std.specs.Prelude.{MatchOption}
 use Rattle.std.proofs.lemmas.List.{length-map, length_push}
 use Rattle.gl_filters.specs.Picked.{edges_of_table, picked}
 use Rattle.gl_walks.specs.declared.search.Search.{Search}
 use Rattle.gl_walks.specs.bodies.Fronts.{Sought, sought_by, IsEven, NoneFrom, IsLeastFrom, HasPassed, IsFront, key_after, may_follow}
 use Rattle.gl_walks.proofs.Ends.{even_by}
 use Rattle.gl_walks.proofs.Places.{element_at}
-use Rattle.gl_walks.proofs.Steps.{none_stray, none_closed, passed_first, passed_more, passed_all, least_here, longer_front, whole_walk, whole_none}
+use Rattle.gl_walks.proofs.Steps.{none_stray, none_closed, passed_first, passed_more, passed_all, least_here, longer_front, whole_walk, whole_none, closer}
 use Rattle.gl_walks.proofs.search.Search.+grow.Goals as goal
 
 -- what is looked for
@@ -59,12 +59,6 @@ grow-after-next-requires t c =
     omega (arith, has.0, length-map c.args.self.now.area.table.now (λ pair. pair.0))
 
 -- fewer positions are left behind a later one
-closer : (n m i : ℕ) (now next : Option ℕ) → m ≡ n → now ≡ Some i → i < unwrap_or next m → unwrap_or next m ≤ m → n - unwrap_or next n < n - unwrap_or now n
-closer n m i now next same is before within =
-    let here : unwrap_or now n ≡ i = ap (λ o. unwrap_or o n) is in
-    let there : unwrap_or next m ≡ unwrap_or next n = ap (unwrap_or next) same in
-    omega arith
-
 pub grow-loop-next-smaller : goal.grow-loop-next-smaller
 grow-loop-next-smaller t c =
     let table = c.args.self.now.area.table.now in
