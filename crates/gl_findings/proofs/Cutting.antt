@@ -22,12 +22,12 @@ use Rattle.gl_cycles.proofs.BelowFronts.{picked-append}
 use Rattle.gl_index.proofs.Lists.{element_at}
 use Rattle.gl_cycles.proofs.CyclesAreLevel.{picked_among}
 use Rattle.gl_cycles.proofs.AmongAllCycles.{there_is_cycle}
-use Rattle.gl_walks.specs.declared.purpose.Purpose.TheVariants.{Front, Round}
-use Rattle.gl_walks.specs.Walks.{is_front, NoWalk}
+use Rattle.gl_walks.specs.declared.purpose.Purpose.TheVariants.{Front, Round, Ring}
+use Rattle.gl_walks.specs.Walks.{is_front, is_chain, IsWalk, NoWalk}
 use Rattle.gl_findings.specs.Findings.{class_of, classes_of, signature_of, turned, is_turn, first_with}
 use Rattle.gl_findings.specs.bodies.Grounds.{AreModels}
-use Rattle.gl_findings.proofs.Modelled.{alike_front, alike_round, models_of}
-use Rattle.gl_findings.proofs.Turning.{turned_front, turned_round, front_of_front}
+use Rattle.gl_findings.proofs.Modelled.{AllAlike, alike_front, alike_round, models_of}
+use Rattle.gl_findings.proofs.Turning.{turned_front, turned_chain, turned_round, front_of_front}
 
 -- nothing is left where nothing passes
 pub filter-nothing : {X : Type 0} (p : X → Bool) (xs : List X) → ((x : X) → Contains xs x → p x ≡ false) → filter p xs ≡ []
@@ -91,6 +91,13 @@ pub record IsModelRound (mode : Mode) (edges : List Edge) (classes : List ℕ) (
   pub in_front : is_front mode (picked edges places) ≡ true
   pub round : leads_back (picked edges places) ≡ true
 
+-- and edges that are kept, which they are models of, and go round, too
+pub record IsRingWith (before : Segment → Segment → Bool) (mode : Mode) (edges : List Edge) (classes : List ℕ) (kept models : List Bool) (signature : List ℕ) : Type 0 where
+  pub model : IsModelRound mode edges classes models signature
+  pub positions : List ℕ
+  pub ring : IsWalk Ring before mode edges classes kept signature positions
+  pub alike : AllAlike (picked edges model.places) (picked edges positions)
+
 -- they begin with a walk among the models with the classes of a front that the signature begins with
 walk_begins : (before : Segment → Segment → Bool) (mode : Mode) (edges : List Edge) (classes : List ℕ) (models : List Bool) (front rest : List ℕ) → IsModelRound mode edges classes models (front ++ rest)
     → NoWalk Front before mode edges classes models front → ⊥
@@ -121,9 +128,9 @@ module _ (before : Segment → Segment → Bool) (mode : Mode) (len : ℕ) (tabl
           absurd (keeps.left_out (get_or positions k d) e stands at (picked (edges_of_table table) positions) (picked_among (edges_of_table table) positions) is.cycle (picked_has (edges_of_table table) positions k d e below stands))
 
   -- a cycle of a signature has its models
-  pub model_round : KeepsCycles before mode len (edges_of_table table) kept → AreModels (edges_of_table table) (classes_of table) kept models
-      → (signature positions : List ℕ) → IsCycleAt before mode len (edges_of_table table) positions → is_turn signature (signature_of table positions) ≡ true → IsModelRound mode (edges_of_table table) (classes_of table) models signature
-  model_round keeps have signature positions is turn =
+  ring_with : KeepsCycles before mode len (edges_of_table table) kept → AreModels (edges_of_table table) (classes_of table) kept models
+      → (signature positions : List ℕ) → IsCycleAt before mode len (edges_of_table table) positions → is_turn signature (signature_of table positions) ≡ true → IsRingWith before mode (edges_of_table table) (classes_of table) kept models signature
+  ring_with keeps have signature positions is turn =
       let edges = edges_of_table table in
       let told_by = slice_get (classes_of table) in
       let (j, k, j_in, k_is, passes) = Any-from_list_any (λ k. pointwise nat_eq (turned k signature) (signature_of table positions)) (range_with_len 0 (length signature)) turn in
@@ -134,15 +141,38 @@ module _ (before : Segment → Segment → Bool) (mode : Mode) (len : ℕ) (tabl
       let cycle : IsCycle before mode len (picked edges halves.front ++ picked edges halves.back) = subst (IsCycle before mode len) (ap (picked edges) (sym halves.whole) ∙ picked-append edges halves.front halves.back) is.cycle in
       let P = λ (i : ℕ). slice_get kept i ≡ Some true in
       let all : All P (halves.front ++ halves.back) = subst (All P) (sym halves.whole) (cycle_is_kept keeps positions is) in
-      let found = models_of edges (classes_of table) kept models have (halves.back ++ halves.front) (All-append P halves.back halves.front (All-right P halves.front halves.back all) (All-left P halves.front halves.back all)) in
+      let turned_all : All P (halves.back ++ halves.front) = All-append P halves.back halves.front (All-right P halves.front halves.back all) (All-left P halves.front halves.back all) in
+      let found = models_of edges (classes_of table) kept models have (halves.back ++ halves.front) turned_all in
       let joined = picked-append edges halves.back halves.front in
+      let told_back = turned_back told_by halves.front halves.back signature k halves.of_front halves.of_back in
+      let back = ap leads_back joined ∙ turned_round before mode len (picked edges halves.front) (picked edges halves.back) cycle in
       record {
-        places = found.places;
-        flagged = found.flagged;
-        of_classes = found.same_classes ∙ turned_back told_by halves.front halves.back signature k halves.of_front halves.of_back;
-        in_front = alike_front mode (picked edges found.places) _ found.alike ∙ ap (is_front mode) joined ∙ turned_front before mode len (picked edges halves.front) (picked edges halves.back) cycle;
-        round = alike_round mode (picked edges found.places) _ found.alike ∙ ap leads_back joined ∙ turned_round before mode len (picked edges halves.front) (picked edges halves.back) cycle;
+        model = record {
+          places = found.places;
+          flagged = found.flagged;
+          of_classes = found.same_classes ∙ told_back;
+          in_front = alike_front mode (picked edges found.places) _ found.alike ∙ ap (is_front mode) joined ∙ turned_front before mode len (picked edges halves.front) (picked edges halves.back) cycle;
+          round = alike_round mode (picked edges found.places) _ found.alike ∙ back;
+        };
+        positions = halves.back ++ halves.front;
+        ring = record {
+          flagged = turned_all;
+          of_classes = told_back;
+          fitting = and_from _ _ (ap (is_chain before mode) joined ∙ turned_chain before mode len (picked edges halves.front) (picked edges halves.back) cycle) back;
+        };
+        alike = found.alike;
       }
+
+  pub model_round : KeepsCycles before mode len (edges_of_table table) kept → AreModels (edges_of_table table) (classes_of table) kept models
+      → (signature positions : List ℕ) → IsCycleAt before mode len (edges_of_table table) positions → is_turn signature (signature_of table positions) ≡ true → IsModelRound mode (edges_of_table table) (classes_of table) models signature
+  model_round keeps have signature positions is turn = (ring_with keeps have signature positions is turn).model
+
+  -- where there is no such ring, no cycle has the signature
+  pub none_goes_ring : KeepsCycles before mode len (edges_of_table table) kept → AreModels (edges_of_table table) (classes_of table) kept models
+      → (signature : List ℕ) → ¬ IsRingWith before mode (edges_of_table table) (classes_of table) kept models signature → first_with before mode len table signature ≡ []
+  none_goes_ring keeps have signature none =
+      ap (take 1) (filter-nothing _ (all_cycles before mode len (edges_of_table table))
+      (λ positions at. false_from_ne_true _ (λ turn. none (ring_with keeps have signature positions (there_is_cycle before mode len (edges_of_table table) positions at) turn))))
 
   -- where no walk among the models has the classes of a front, no cycle has a signature that begins with it
   pub none_turned : KeepsCycles before mode len (edges_of_table table) kept → AreModels (edges_of_table table) (classes_of table) kept models

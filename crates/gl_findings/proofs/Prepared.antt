@@ -8,7 +8,7 @@ use Rattle.gl_segments.specs.Clocks.{is_before}
 use Rattle.gl_filters.specs.Picked.{edges_of_table}
 use Rattle.gl_edges.specs.declared.edge.Edge.{Edge}
 use Rattle.gl_edges.specs.declared.edge.Sample.{Sample}
-use Rattle.gl_walks.specs.declared.purpose.Purpose.TheVariants.{Front}
+use Rattle.gl_walks.specs.declared.purpose.Purpose.TheVariants.{Front, Round}
 use Rattle.gl_walks.specs.Walks.{NoWalk}
 use Rattle.gl_findings.specs.Findings.{begins_least, class_of, classes_of, first_with, is_turn}
 use Rattle.gl_findings.specs.bodies.Finding.{IsReady, block_of, below_of, finding_of}
@@ -39,15 +39,15 @@ where_least false none = refl
 
 module _ (s : Finder) (ready : IsReady s) where
   -- a front that models show no walk for begins no finding
-  pub none_below : (n : ℕ) (front : List ℕ) → NoWalk s.fronts.purpose (is_before s.fronts.ground.order.now) s.fronts.ground.mode (edges_of_table s.fronts.ground.table.now) s.fronts.ground.classes.now s.fronts.ground.flags.now front → block_of s n front ≡ []
+  pub none_below : (n : ℕ) (front : List ℕ) → NoWalk Front (is_before s.among_models.ground.order.now) s.among_models.ground.mode (edges_of_table s.among_models.ground.table.now) s.among_models.ground.classes.now s.among_models.ground.flags.now front → block_of s n front ≡ []
   none_below n front none =
-      let f = ready.fronts in
-      none_begins (is_before s.order.now) s.mode s.len s.table.now s.cycles.ground.flags.now s.fronts.ground.flags.now ready.kept ready.models n front
-      (rw (f.same_purpose, f.same_order, f.same_mode, f.same_table, f.same_classes) at none)
+      let f = ready.over_models in
+      none_begins (is_before s.order.now) s.mode s.len s.table.now s.among_kept.ground.flags.now s.among_models.ground.flags.now ready.kept ready.models n front
+      (rw (f.same_order, f.same_mode, f.same_table, f.same_classes) at none)
 
   -- nor does one of which one thread alone runs two classes
   pub none_run_twice : (n : ℕ) (front : List ℕ) → IsRunTwice s.runners.now front → block_of s n front ≡ []
-  none_run_twice n front twice = none_by_one (is_before s.order.now) s.mode s.len s.table.now s.cycles.ground.flags.now s.runners.now ready.kept ready.run n front twice
+  none_run_twice n front twice = none_by_one (is_before s.order.now) s.mode s.len s.table.now s.among_kept.ground.flags.now s.runners.now ready.kept ready.run n front twice
 
   -- nor does one that goes on with a class to which its last one doesn't lead on
   pub none_passed : (n : ℕ) (front : List ℕ) (class : ℕ) → 0 < length front → may_pass s.passages.now (get_or front (length front - 1) 0) class ≡ false → block_of s n (front ++ class ∷ []) ≡ []
@@ -56,9 +56,9 @@ module _ (s : Finder) (ready : IsReady s) where
       let at_last : length l ≡ length (x ∷ l) - 1 = omega arith in
       let last = get_or (x ∷ l) (length l) 0 in
       let whole : x ∷ l ++ class ∷ [] ≡ take (length l) (x ∷ l) ++ last ∷ class ∷ [] = ap (λ k. k ++ class ∷ []) (last_one x l) ∙ append_assoc (take (length l) (x ∷ l)) (last ∷ []) (class ∷ []) in
-      none_begins (is_before s.order.now) s.mode s.len s.table.now s.cycles.ground.flags.now s.fronts.ground.flags.now ready.kept ready.models n (x ∷ l ++ class ∷ [])
-      (subst (NoWalk Front (is_before s.order.now) s.mode (edges_of_table s.table.now) (classes_of s.table.now) s.fronts.ground.flags.now) (sym whole)
-      (no_walk_by (edges_of_table s.table.now) (classes_of s.table.now) s.fronts.ground.flags.now s.passages.now (as_long s.table.now) ready.pass (is_before s.order.now) s.mode
+      none_begins (is_before s.order.now) s.mode s.len s.table.now s.among_kept.ground.flags.now s.among_models.ground.flags.now ready.kept ready.models n (x ∷ l ++ class ∷ [])
+      (subst (NoWalk Front (is_before s.order.now) s.mode (edges_of_table s.table.now) (classes_of s.table.now) s.among_models.ground.flags.now) (sym whole)
+      (no_walk_by (edges_of_table s.table.now) (classes_of s.table.now) s.among_models.ground.flags.now s.passages.now (as_long s.table.now) ready.pass (is_before s.order.now) s.mode
       (take (length l) (x ∷ l)) last class
       ((λ i. may_pass s.passages.now (get_or (x ∷ l) (at_last i) 0) class) ∙ not)))
 
@@ -70,18 +70,18 @@ module _ (s : Finder) (ready : IsReady s) where
       let at_last : suc (length l) ≡ length (x ∷ y ∷ l) - 1 = omega arith in
       let last = get_or (x ∷ y ∷ l) (suc (length l)) 0 in
       let rest = take (length l) (y ∷ l) in
-      let none = no_walk_by (edges_of_table s.table.now) (classes_of s.table.now) s.fronts.ground.flags.now s.passages.now (as_long s.table.now) ready.pass (is_before s.order.now) s.mode [] last x ((λ i. may_pass s.passages.now (get_or (x ∷ y ∷ l) (at_last i) 0) x) ∙ not) in
+      let none = no_walk_by (edges_of_table s.table.now) (classes_of s.table.now) s.among_models.ground.flags.now s.passages.now (as_long s.table.now) ready.pass (is_before s.order.now) s.mode [] last x ((λ i. may_pass s.passages.now (get_or (x ∷ y ∷ l) (at_last i) 0) x) ∙ not) in
       where_least (begins_least (x ∷ y ∷ l))
-      (none_with_turned (is_before s.order.now) s.mode s.len s.table.now s.cycles.ground.flags.now s.fronts.ground.flags.now ready.kept ready.models (last ∷ x ∷ []) rest none (x ∷ y ∷ l)
+      (none_with_turned (is_before s.order.now) s.mode s.len s.table.now s.among_kept.ground.flags.now s.among_models.ground.flags.now ready.kept ready.models (last ∷ x ∷ []) rest none (x ∷ y ∷ l)
       (λ other turn. turn_of_last (x ∷ rest) last other (subst (λ l. is_turn l other ≡ true) (last_one x (y ∷ l)) turn)))
 
   -- nor one with whose classes no models go round
-  pub none_around : (signature : List ℕ) → NoWalk s.rounds.purpose (is_before s.rounds.ground.order.now) s.rounds.ground.mode (edges_of_table s.rounds.ground.table.now) s.rounds.ground.classes.now s.rounds.ground.flags.now signature → finding_of s signature ≡ []
+  pub none_around : (signature : List ℕ) → NoWalk Round (is_before s.among_models.ground.order.now) s.among_models.ground.mode (edges_of_table s.among_models.ground.table.now) s.among_models.ground.classes.now s.among_models.ground.flags.now signature → finding_of s signature ≡ []
   none_around signature none =
-      let r = ready.rounds in
+      let r = ready.over_models in
       where_least (begins_least signature)
-      (none_goes_round (is_before s.order.now) s.mode s.len s.table.now s.cycles.ground.flags.now s.fronts.ground.flags.now ready.kept ready.models signature
-      (rw (r.same_purpose, r.same_order, r.same_mode, r.same_table, r.same_classes, ready.same_models) at none))
+      (none_goes_round (is_before s.order.now) s.mode s.len s.table.now s.among_kept.ground.flags.now s.among_models.ground.flags.now ready.kept ready.models signature
+      (rw (r.same_order, r.same_mode, r.same_table, r.same_classes) at none))
 
   -- nor does anything go on from one that may be no longer
   pub none_open : (signature : List ℕ) (class : ℕ) → length signature + 1 ≡ s.len → finding_of s (signature ++ class ∷ []) ≡ [] → block_of s (s.len - length signature - 1) (signature ++ class ∷ []) ≡ []
@@ -96,7 +96,7 @@ module _ (s : Finder) (ready : IsReady s) where
   -- classes that are passed over
   pub skipped : (n : ℕ) (front : List ℕ) (m next i : ℕ) → slice_get s.next.now m ≡ Some next → m ≤ i → i < next → block_of s n (front ++ i ∷ []) ≡ []
   skipped n front m next i at from below =
-      none_through (is_before s.order.now) s.mode s.len s.table.now s.cycles.ground.flags.now s.fronts.ground.flags.now ready.kept ready.models n front i (ready.next.skipped m next i at from below)
+      none_through (is_before s.order.now) s.mode s.len s.table.now s.among_kept.ground.flags.now s.among_models.ground.flags.now ready.kept ready.models n front i (ready.next.skipped m next i at from below)
 
   -- what has grown before the next class
   abbrev pub Grown : ℕ → List ℕ → List (List ℕ) → List (List ℕ) → ℕ → Type 0

@@ -5,7 +5,7 @@ use Rattle.std.specs.List.{cons_option, list_all}
 use Rattle.std.proofs.lemmas.Bool.{and_parts, cases_eq}
 use Rattle.std.proofs.lemmas.List.{length-append}
 use Rattle.std.proofs.lemmas.List.Elements.{All-head, All-tail}
-use Rattle.std.proofs.lemmas.Option.{same_Some, slice_get_within}
+use Rattle.std.proofs.lemmas.Option.{none-some, same_Some, slice_get_within}
 use Rattle.gl_event.specs.declared.events.Segment.{Segment}
 use Rattle.gl_edges.specs.declared.edge.Edge.{Edge}
 use Rattle.gl_filters.specs.declared.query.Mode.{Mode}
@@ -13,17 +13,21 @@ use Rattle.gl_filters.specs.Picked.{edges_of_table, picked}
 use Rattle.gl_filters.specs.Test.{kinds_go_together, last_of, lead_on, leads_back, leads_to}
 use Rattle.gl_index.proofs.Lists.{element_at}
 use Rattle.gl_segments.specs.Clocks.{is_before}
-use Rattle.gl_walks.specs.declared.purpose.Purpose.TheVariants.{Front, Round}
-use Rattle.gl_walks.specs.Walks.{is_front, kinds_together, NoWalk}
+use Rattle.gl_walks.specs.declared.purpose.Purpose.{Purpose}
+use Rattle.gl_walks.specs.declared.walker.Walker.{Walker}
+use Rattle.gl_walks.specs.declared.purpose.Purpose.TheVariants.{Front, Round, Ring}
+use Rattle.gl_walks.specs.Walks.{is_front, kinds_together, NoWalk, HasWalkFrom}
 use Rattle.gl_findings.specs.Findings.{begins_least, classes_of}
-use Rattle.gl_findings.specs.bodies.Finding.{IsReady, block_of, finding_of}
+use Rattle.gl_findings.specs.bodies.Finding.{IsReady, HasSpans, block_of, finding_of}
+use Rattle.gl_findings.specs.bodies.Starting.{NoneAt, NoneHolding}
 use Rattle.gl_findings.specs.bodies.Spanning.{AreInOrder, AreReached, GoesWith, HaveSpans, IsChain, IsDue, IsOne, KeepSpans, Leads, MayFollow, span_of}
 use Rattle.gl_findings.specs.declared.finder.Finder.{Finder}
 use Rattle.gl_findings.specs.declared.spans.Span.{Span}
 use Rattle.gl_findings.specs.declared.spans.Spans.{Spans}
 use Rattle.gl_findings.proofs.Below.{block-zero}
 use Rattle.gl_findings.proofs.ByPassages.{front_leads, front_together, head, tail}
-use Rattle.gl_findings.proofs.Cutting.{none_goes_round}
+use Rattle.gl_findings.proofs.Cutting.{none_goes_round, none_goes_ring}
+use Rattle.gl_findings.proofs.Modelled.{AllAlike}
 use Rattle.gl_findings.proofs.Passed.{none_begins}
 use Rattle.gl_findings.proofs.Prepared.{as_long, where_least}
 use Rattle.gl_findings.proofs.SpanSteps.{AreFollowed}
@@ -139,6 +143,7 @@ module _ (mode : Mode) (edges : List Edge) (classes : List ℕ) (flags : List Bo
     pub begins : Edge
     pub ends : Edge
     pub chain : IsChain mode edges classes flags signature first last begins ends
+    pub at_first : slice_get (picked edges positions) 0 ≡ Some begins
     pub back : leads_back (picked edges positions) ≡ true → leads_to ends begins ≡ true
 
   chain_along : (signature positions : List ℕ) → 0 < length signature → All (λ i. slice_get flags i ≡ Some true) positions → map (slice_get classes) positions ≡ map Some signature → is_front mode (picked edges positions) ≡ true → HasChain signature positions
@@ -157,8 +162,24 @@ module _ (mode : Mode) (edges : List Edge) (classes : List ℕ) (flags : List Bo
         begins = e.0;
         ends = last_of e.0 es;
         chain = (e.1, leads.1);
+        at_first = ap (λ o. slice_get (cons_option o es) 0) e.1.at;
         back = λ back. subst (λ o. leads_back (cons_option o es) ≡ true) e.1.at back;
       }
+
+  -- a walk of a front begins where a chain does
+  pub no_front_from : (before : Segment → Segment → Bool) (signature : List ℕ) → 0 < length signature
+      → ((i j : ℕ) (e f : Edge) → IsChain mode edges classes flags signature i j e f → ¬ HasWalkFrom Front before mode edges classes flags signature e.held) → NoWalk Front before mode edges classes flags signature
+  no_front_from before signature some none positions walk =
+      let has = chain_along signature positions some walk.flagged walk.of_classes walk.fitting in
+      none has.first has.last has.begins has.ends has.chain (record { positions = positions; walk = walk; first = has.begins; begins = has.at_first; holds = refl })
+
+  -- and one that goes round where one does that leads back
+  pub no_round_from : (before : Segment → Segment → Bool) (signature : List ℕ) → 0 < length signature
+      → ((i j : ℕ) (e f : Edge) → IsChain mode edges classes flags signature i j e f → leads_to f e ≡ true → ¬ HasWalkFrom Round before mode edges classes flags signature e.held) → NoWalk Round before mode edges classes flags signature
+  no_round_from before signature some none positions walk =
+      let both = and_parts (is_front mode (picked edges positions)) (leads_back (picked edges positions)) walk.fitting in
+      let has = chain_along signature positions some walk.flagged walk.of_classes both.0 in
+      none has.first has.last has.begins has.ends has.chain (has.back both.1) (record { positions = positions; walk = walk; first = has.begins; begins = has.at_first; holds = refl })
 
   -- without a chain there is no walk
   pub no_front : (before : Segment → Segment → Bool) (signature : List ℕ) → 0 < length signature → ((i j : ℕ) (e f : Edge) → IsChain mode edges classes flags signature i j e f → ⊥) → NoWalk Front before mode edges classes flags signature
@@ -173,17 +194,72 @@ module _ (mode : Mode) (edges : List Edge) (classes : List ℕ) (flags : List Bo
       let has = chain_along signature positions some walk.flagged walk.of_classes both.0 in
       none has.first has.last has.begins has.ends has.chain (has.back both.1)
 
+-- the first of edges that are alike holds what the first of the others does
+first_alike : (es fs : List Edge) (e : Edge) → AllAlike es fs → slice_get es 0 ≡ Some e → (f : Edge) × (slice_get fs 0 ≡ Some f) × (e.held ≡ f.held)
+first_alike [] fs e all at = absurd (none-some e at)
+first_alike (d ∷ es) [] e all at = absurd all
+first_alike (d ∷ es) (f ∷ fs) e all at = (f, refl, ap (λ (c : Edge). c.held) (sym (same_Some d e at)) ∙ all.0.held)
+
 module _ (s : Finder) (ready : IsReady s) where
   -- chains of models, by the search's edges
   abbrev pub ChainOf : List ℕ → ℕ → ℕ → Edge → Edge → Type 0
-  ChainOf signature i j e f = IsChain s.mode (edges_of_table s.table.now) (classes_of s.table.now) s.fronts.ground.flags.now signature i j e f
+  ChainOf signature i j e f = IsChain s.mode (edges_of_table s.table.now) (classes_of s.table.now) s.among_models.ground.flags.now signature i j e f
 
   -- a signature of which no chain leads back has no finding
   pub none_closed : (signature : List ℕ) → 0 < length signature → ((i j : ℕ) (e f : Edge) → ChainOf signature i j e f → leads_to f e ≡ true → ⊥) → finding_of s signature ≡ []
   none_closed signature some none =
       where_least (begins_least signature)
-      (none_goes_round (is_before s.order.now) s.mode s.len s.table.now s.cycles.ground.flags.now s.fronts.ground.flags.now ready.kept ready.models signature
-      (no_round s.mode (edges_of_table s.table.now) (classes_of s.table.now) s.fronts.ground.flags.now (as_long s.table.now) (is_before s.order.now) signature some none))
+      (none_goes_round (is_before s.order.now) s.mode s.len s.table.now s.among_kept.ground.flags.now s.among_models.ground.flags.now ready.kept ready.models signature
+      (no_round s.mode (edges_of_table s.table.now) (classes_of s.table.now) s.among_models.ground.flags.now (as_long s.table.now) (is_before s.order.now) signature some none))
+
+  -- what a walker over these doesn't find isn't there
+  pub among_models : (purpose : Purpose) (signature : List ℕ) (lock : ℕ) → NoneHolding s.among_models purpose signature lock → ¬ HasWalkFrom purpose (is_before s.order.now) s.mode (edges_of_table s.table.now) (classes_of s.table.now) s.among_models.ground.flags.now signature lock
+  among_models purpose signature lock none = let o = ready.over_models in rw (o.same_order, o.same_mode, o.same_table, o.same_classes) at none
+
+  pub among_kept : (purpose : Purpose) (signature : List ℕ) (lock : ℕ) → NoneHolding s.among_kept purpose signature lock → ¬ HasWalkFrom purpose (is_before s.order.now) s.mode (edges_of_table s.table.now) (classes_of s.table.now) s.among_kept.ground.flags.now signature lock
+  among_kept purpose signature lock none = let o = ready.over_kept in rw (o.same_order, o.same_mode, o.same_table, o.same_classes) at none
+
+  -- spans of which none begins a walk
+  abbrev pub NoneBegins : Walker → Purpose → List ℕ → Spans → Type 0
+  NoneBegins walker purpose signature spans = (span : Span) → Contains spans.list.items span → NoneAt walker purpose signature span
+
+  -- a front that none begins has no finding
+  pub none_begun : (n : ℕ) (front : List ℕ) (spans : Spans) → 0 < length front → ¬ (length front ≡ s.len) → HasSpans s front spans → spans.are_all ≡ true → NoneBegins s.among_models Front front spans → block_of s n front ≡ []
+  none_begun n front spans some room have all none =
+      none_begins (is_before s.order.now) s.mode s.len s.table.now s.among_kept.ground.flags.now s.among_models.ground.flags.now ready.kept ready.models n front
+      (no_front_from s.mode (edges_of_table s.table.now) (classes_of s.table.now) s.among_models.ground.flags.now (as_long s.table.now) (is_before s.order.now) front some
+      (λ i j e f chain.
+      let has = have.each all i j e f chain (λ is. absurd (room is)) in
+      among_models Front front e.held (none (span_of i j e f has.0) has.1 (λ other. absurd (other refl)))))
+
+  -- nor has a signature of which none begins a round
+  pub none_rounded : (signature : List ℕ) (spans : Spans) → 0 < length signature → HasSpans s signature spans → spans.are_all ≡ true → NoneBegins s.among_models Round signature spans → finding_of s signature ≡ []
+  none_rounded signature spans some have all none =
+      where_least (begins_least signature)
+      (none_goes_round (is_before s.order.now) s.mode s.len s.table.now s.among_kept.ground.flags.now s.among_models.ground.flags.now ready.kept ready.models signature
+      (no_round_from s.mode (edges_of_table s.table.now) (classes_of s.table.now) s.among_models.ground.flags.now (as_long s.table.now) (is_before s.order.now) signature some
+      (λ i j e f chain leads.
+      let has = have.each all i j e f chain (λ is. leads) in
+      among_models Round signature e.held (none (span_of i j e f has.0) has.1 (λ other. leads)))))
+
+  -- nor has one of which no ring begins where a chain does
+  pub none_ringed : (signature : List ℕ) → 0 < length signature
+      → ((i j : ℕ) (e f : Edge) → ChainOf signature i j e f → leads_to f e ≡ true → ¬ HasWalkFrom Ring (is_before s.order.now) s.mode (edges_of_table s.table.now) (classes_of s.table.now) s.among_kept.ground.flags.now signature e.held) → finding_of s signature ≡ []
+  none_ringed signature some none =
+      where_least (begins_least signature)
+      (none_goes_ring (is_before s.order.now) s.mode s.len s.table.now s.among_kept.ground.flags.now s.among_models.ground.flags.now ready.kept ready.models signature
+      (λ is.
+      let edges = edges_of_table s.table.now in
+      let has = chain_along s.mode edges (classes_of s.table.now) s.among_models.ground.flags.now (as_long s.table.now) signature is.model.places some is.model.flagged is.model.of_classes is.model.in_front in
+      let one = first_alike (picked edges is.model.places) (picked edges is.positions) has.begins is.alike has.at_first in
+      none has.first has.last has.begins has.ends has.chain (has.back is.model.round) (record { positions = is.positions; walk = is.ring; first = one.0; begins = one.1; holds = sym one.2 })))
+
+  pub none_rung : (signature : List ℕ) (spans : Spans) → 0 < length signature → HasSpans s signature spans → spans.are_all ≡ true → NoneBegins s.among_kept Ring signature spans → finding_of s signature ≡ []
+  none_rung signature spans some have all none =
+      none_ringed signature some
+      (λ i j e f chain leads.
+      let has = have.each all i j e f chain (λ is. leads) in
+      among_kept Ring signature e.held (none (span_of i j e f has.0) has.1 (λ other. leads)))
 
   -- none begins where no chain is due
   none_due : (signature : List ℕ) → 0 < length signature → length signature ≤ s.len → ((i j : ℕ) (e f : Edge) → ChainOf signature i j e f → IsDue s.len signature e f → ⊥) → block_of s (s.len - length signature) signature ≡ []
@@ -194,8 +270,8 @@ module _ (s : Finder) (ready : IsReady s) where
             subst (λ n. block_of s n signature ≡ []) left
             (block-zero (is_before s.order.now) s.mode s.len s.table.now signature ∙ none_closed signature some (λ i j e f chain leads. none i j e f chain (λ is. leads)))
         | inr room ↦
-            none_begins (is_before s.order.now) s.mode s.len s.table.now s.cycles.ground.flags.now s.fronts.ground.flags.now ready.kept ready.models (s.len - length signature) signature
-            (no_front s.mode (edges_of_table s.table.now) (classes_of s.table.now) s.fronts.ground.flags.now (as_long s.table.now) (is_before s.order.now) signature some (λ i j e f chain. none i j e f chain (λ is. absurd (room is))))
+            none_begins (is_before s.order.now) s.mode s.len s.table.now s.among_kept.ground.flags.now s.among_models.ground.flags.now ready.kept ready.models (s.len - length signature) signature
+            (no_front s.mode (edges_of_table s.table.now) (classes_of s.table.now) s.among_models.ground.flags.now (as_long s.table.now) (is_before s.order.now) signature some (λ i j e f chain. none i j e f chain (λ is. absurd (room is))))
       ]
 
   -- so it is with a front that goes on with a class

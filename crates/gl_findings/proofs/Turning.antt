@@ -11,11 +11,11 @@ use Rattle.gl_event.specs.declared.events.Segment.{Segment}
 use Rattle.gl_edges.specs.declared.edge.Edge.{Edge}
 use Rattle.gl_filters.specs.declared.query.Mode.{Mode}
 use Rattle.gl_filters.specs.Cycle.{IsCycle}
-use Rattle.gl_filters.specs.Test.{leads_to, lead_on, kinds_go_together, last_of, leads_back}
+use Rattle.gl_filters.specs.Test.{leads_to, lead_on, goes_with, kinds_go_together, last_of, leads_back}
 use Rattle.gl_filters.specs.Verdicts.{following}
 use Rattle.gl_filters.proofs.Cycling.{leads_from}
-use Rattle.gl_filters.proofs.Round.{pair_goes_by_kind, leads_round}
-use Rattle.gl_walks.specs.Walks.{kinds_together, is_front}
+use Rattle.gl_filters.proofs.Round.{pair_goes, pair_goes_by_kind, leads_round}
+use Rattle.gl_walks.specs.Walks.{together, kinds_together, is_front, is_chain}
 
 -- what stands in the second of two lists stands that many places later in both
 pub get_behind : {X : Type 0} (xs ys : List X) (k : ℕ) → slice_get (xs ++ ys) (length xs + k) ≡ slice_get ys k
@@ -27,12 +27,12 @@ pub all_from_each : {X : Type 0} (p : X → Bool) (xs : List X) → ((k : ℕ) (
 all_from_each p [] each = refl
 all_from_each p (x ∷ xs) each = and_from (p x) _ (each 0 x refl) (all_from_each p xs (λ k y at. each (suc k) y at))
 
-together_from : (mode : Mode) (es : List Edge) → ((i j : ℕ) (e f : Edge) → i < j → slice_get es i ≡ Some e → slice_get es j ≡ Some f → kinds_go_together mode e f ≡ true) → kinds_together mode es ≡ true
-together_from mode [] pairs = refl
-together_from mode (e ∷ es) pairs =
-    and_from (list_all (kinds_go_together mode e) es) _
-    (all_from_each (kinds_go_together mode e) es (λ k f at. pairs 0 (suc k) e f (omega arith) refl at))
-    (together_from mode es (λ i j c f lower at_c at_f. pairs (suc i) (suc j) c f (omega arith) at_c at_f))
+together_from : (goes : Edge → Edge → Bool) (es : List Edge) → ((i j : ℕ) (e f : Edge) → i < j → slice_get es i ≡ Some e → slice_get es j ≡ Some f → goes e f ≡ true) → together goes es ≡ true
+together_from goes [] pairs = refl
+together_from goes (e ∷ es) pairs =
+    and_from (list_all (goes e) es) _
+    (all_from_each (goes e) es (λ k f at. pairs 0 (suc k) e f (omega arith) refl at))
+    (together_from goes es (λ i j c f lower at_c at_f. pairs (suc i) (suc j) c f (omega arith) at_c at_f))
 
 led_from : (es : List Edge) → ((i : ℕ) (e f : Edge) → slice_get es i ≡ Some e → slice_get es (suc i) ≡ Some f → leads_to e f ≡ true) → lead_on es ≡ true
 led_from [] next = refl
@@ -95,19 +95,33 @@ next_place m n i k l p q =
 next_home : {X : Type 0} (xs ys : List X) (i : ℕ) (e f : X) → (a : IsHome xs ys i e) → (b : IsHome xs ys (suc i) f) → b.place ≡ following (length (xs ++ ys)) a.place
 next_home xs ys i e f a b = next_place (length xs) (length ys) i a.place b.place a.counts b.counts ∙ ap (λ n. cond (eqb (a.place + 1) n) 0 (a.place + 1)) (sym (length-append xs ys))
 
--- a cycle told from another edge on is a front of a round, by its kinds
+-- each edge of a cycle leads on to the next one, told from another edge on
+turned_led : (before : Segment → Segment → Bool) (mode : Mode) (len : ℕ) (xs ys : List Edge) → IsCycle before mode len (xs ++ ys) → lead_on (ys ++ xs) ≡ true
+turned_led before mode len xs ys cycle =
+    led_from (ys ++ xs) (λ i e f here there.
+    let a = home xs ys i e here in
+    let b = home xs ys (suc i) f there in
+    leads_from e f (leads_round before mode len (xs ++ ys) cycle a.place e f a.stands (ap (slice_get (xs ++ ys)) (sym (next_home xs ys i e f a b)) ∙ b.stands)))
+
+-- so it is a front of a round, by its kinds
 pub turned_front : (before : Segment → Segment → Bool) (mode : Mode) (len : ℕ) (xs ys : List Edge) → IsCycle before mode len (xs ++ ys) → is_front mode (ys ++ xs) ≡ true
 unfolding is_front
 turned_front before mode len xs ys cycle =
-    and_from (lead_on (ys ++ xs)) _
-    (led_from (ys ++ xs) (λ i e f here there.
-    let a = home xs ys i e here in
-    let b = home xs ys (suc i) f there in
-    leads_from e f (leads_round before mode len (xs ++ ys) cycle a.place e f a.stands (ap (slice_get (xs ++ ys)) (sym (next_home xs ys i e f a b)) ∙ b.stands))))
-    (together_from mode (ys ++ xs) (λ i j e f lower at_e at_f.
+    and_from (lead_on (ys ++ xs)) _ (turned_led before mode len xs ys cycle)
+    (together_from (kinds_go_together mode) (ys ++ xs) (λ i j e f lower at_e at_f.
     let a = home xs ys i e at_e in
     let b = home xs ys j f at_f in
     pair_goes_by_kind before mode len (xs ++ ys) cycle a.place b.place e f (homes_differ xs ys i j e f lower a b) a.stands b.stands))
+
+-- and by the edges themselves
+pub turned_chain : (before : Segment → Segment → Bool) (mode : Mode) (len : ℕ) (xs ys : List Edge) → IsCycle before mode len (xs ++ ys) → is_chain before mode (ys ++ xs) ≡ true
+unfolding is_chain
+turned_chain before mode len xs ys cycle =
+    and_from (lead_on (ys ++ xs)) _ (turned_led before mode len xs ys cycle)
+    (together_from (goes_with before mode) (ys ++ xs) (λ i j e f lower at_e at_f.
+    let a = home xs ys i e at_e in
+    let b = home xs ys j f at_f in
+    pair_goes before mode len (xs ++ ys) cycle a.place b.place e f (homes_differ xs ys i j e f lower a b) a.stands b.stands))
 
 -- and the first place is behind the last one
 first_place : (m n k l : ℕ) → 0 < m + n → ((m + n - 1 < n) × (k ≡ m + (m + n - 1))) ⊎ ((n + k ≡ m + n - 1) × (k < m)) → ((0 < n) × (l ≡ m + 0)) ⊎ ((n + l ≡ 0) × (l < m)) → l ≡ cond (eqb (k + 1) (m + n)) 0 (k + 1)

@@ -7,5 +7,6 @@ pub mod Lesser
 pub mod Passing
 pub mod Running
 pub mod Spanning
+pub mod Starting
 pub mod Tallies
 pub mod Told

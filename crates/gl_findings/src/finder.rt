@@ -1,5 +1,5 @@
 //! The search of signatures: they grow class by class.
-ghost use Rattle.std.specs.Prelude.{◌≡◌, ◌+◌, ◌-◌, ◌<◌, ◌≤◌, [], ◌∷◌, ◌++◌, ℕ, length, take, false, IfErr, IfOk, IfSome, OnOk, All};
+ghost use Rattle.std.specs.Prelude.{◌≡◌, ◌+◌, ◌-◌, ◌<◌, ◌≤◌, [], ◌∷◌, ◌++◌, ℕ, length, take, true, false, IfErr, IfOk, IfSome, OnOk, All};
 ghost use Rattle.gl_segments.specs.Clocks.{is_before};
 ghost use Rattle.gl_filters.specs.declared.steps.Stop.TheVariants.{Memory};
 ghost use Rattle.gl_cycles.specs.Cycles.{cycles_in};
@@ -12,6 +12,7 @@ use crate::passages::Passages;
 use crate::runners::{Runner, is_run_twice};
 use crate::shown::first_with;
 use crate::spans::Spans;
+use crate::starts::has_walk;
 use crate::turns::{begins_least, longer};
 use gl_edges::{Edge, EdgeList, Sample};
 use gl_event::Memory;
@@ -27,11 +28,9 @@ pub(crate) struct Finder<'a> {
     pub(crate) order: &'a Order,
     pub(crate) mode: Mode,
     // shows the cycles of a signature, among edges that are kept
-    pub(crate) cycles: Walker<'a>,
-    // shows whether a signature may begin so, among models
-    pub(crate) fronts: Walker<'a>,
-    // and whether it may be one of a round of them
-    pub(crate) rounds: Walker<'a>,
+    pub(crate) among_kept: Walker<'a>,
+    // shows whether a signature may begin so, and be one of a round, among models
+    pub(crate) among_models: Walker<'a>,
     // for each class the next one that has a model
     pub(crate) next: &'a [usize],
     // and which thread runs it, where one alone does
@@ -60,9 +59,8 @@ impl Drop for Finder<'_> {
             table,
             order,
             mode,
-            cycles,
-            fronts,
-            rounds,
+            among_kept,
+            among_models,
             next,
             runners,
             passages,
@@ -100,30 +98,28 @@ impl<'a> Finder<'a> {
         let table = edges.entries();
         let mode = query.mode();
         let classes = grounds.classes.as_slice();
-        let among_kept = Ground {
+        let kept = Ground {
             table,
             order,
             mode,
             classes,
             flags: grounds.kept.as_slice(),
         };
-        let among_models = Ground {
+        let models = Ground {
             table,
             order,
             mode,
             classes,
             flags: grounds.models.as_slice(),
         };
-        let cycles = Walker::of(alloc, among_kept, Purpose::Cycle, is_bound)?;
-        let fronts = Walker::of(alloc, among_models, Purpose::Front, is_bound)?;
-        let rounds = Walker::of(alloc, among_models, Purpose::Round, is_bound)?;
+        let among_kept = Walker::of(alloc, kept, is_bound)?;
+        let among_models = Walker::of(alloc, models, is_bound)?;
         Ok(Finder {
             table,
             order,
             mode,
-            cycles,
-            fronts,
-            rounds,
+            among_kept,
+            among_models,
             next: grounds.next.as_slice(),
             runners: grounds.runners.as_slice(),
             passages: &grounds.passages,
@@ -338,8 +334,8 @@ impl Finder<'_> {
     }
 
     // Whether a signature of a cycle may begin so: no thread would have to run two classes alone, and models show
-    // a walk. Where its spans are known none is looked for that would be found for certain, and where it has no room for more
-    // classes either: a round is looked for then.
+    // a walk. Where its spans are known none is sought that would be found for certain, and where it has no room for more
+    // classes either: a round is sought then. Else it is sought from their locks.
     fn may_begin(
         &self,
         alloc: Global,
@@ -350,6 +346,7 @@ impl Finder<'_> {
         requires some { 0 < length front.now }
         requires short { length front.now ≤ self.now.len }
         requires ready { IsReady self.now }
+        requires spans { HasSpans self.now front.now spans.now }
         ensures none { IfOk result
             (λ may. may ≡ false
             → (n : ℕ) → block_of self.now n front.now ≡ []) }
@@ -358,14 +355,31 @@ impl Finder<'_> {
         if is_run_twice(self.runners, front) {
             return Ok(false);
         }
-        if spans.are_exact(front.len()) || spans.are_all && front.len() == self.len {
+        if spans.are_exact(front.len()) {
             return Ok(true);
         }
-        let walk = self.fronts.first(alloc, front, steps)?;
-        Ok(walk.is_some())
+        if !spans.are_all {
+            let walk = self
+                .among_models
+                .first(alloc, Purpose::Front, front, steps)?;
+            return Ok(walk.is_some());
+        }
+        if front.len() == self.len {
+            return Ok(true);
+        }
+        let begins = has_walk(
+            alloc,
+            &self.among_models,
+            Purpose::Front,
+            front,
+            spans,
+            steps,
+        )?;
+        Ok(begins)
     }
 
-    // Whether a cycle may have this signature: a chain of models leads back to where it begins, and they show a round.
+    // Whether a cycle may have this signature: models show a round. Where its spans are known edges that are kept have to show
+    // one, too, that begins where one of its chains does.
     fn goes_round(
         &self,
         alloc: Global,
@@ -381,11 +395,52 @@ impl Finder<'_> {
             (λ goes. goes ≡ false → finding_of self.now signature.now ≡ []) }
         ensures stopped { IfErr result (λ stop. IsUnbound self.now → stop ≡ Memory) }
     {
-        if !spans.may_close() {
+        if !spans.are_all {
+            let round = self
+                .among_models
+                .first(alloc, Purpose::Round, signature, steps)?;
+            return Ok(round.is_some());
+        }
+        if !spans.are_exact(signature.len()) && !self.shows_round(alloc, signature, spans, steps)? {
             return Ok(false);
         }
-        let round = self.rounds.first(alloc, signature, steps)?;
-        Ok(round.is_some())
+        let goes = has_walk(
+            alloc,
+            &self.among_kept,
+            Purpose::Ring,
+            signature,
+            spans,
+            steps,
+        )?;
+        Ok(goes)
+    }
+
+    // Whether models show a round that begins where a chain of them does.
+    fn shows_round(
+        &self,
+        alloc: Global,
+        signature: &[usize],
+        spans: &Spans,
+        steps: &mut usize,
+    ) -> Result<bool, Stop>
+        requires some { 0 < length signature.now }
+        requires short { length signature.now ≤ self.now.len }
+        requires ready { IsReady self.now }
+        requires spans { HasSpans self.now signature.now spans.now }
+        requires all { spans.now.are_all ≡ true }
+        ensures none { IfOk result
+            (λ shows. shows ≡ false → finding_of self.now signature.now ≡ []) }
+        ensures stopped { IfErr result (λ stop. IsUnbound self.now → stop ≡ Memory) }
+    {
+        let shows = has_walk(
+            alloc,
+            &self.among_models,
+            Purpose::Round,
+            signature,
+            spans,
+            steps,
+        )?;
+        Ok(shows)
     }
 
     // Adds the finding of a signature, where it has one. No cycle has fewer than two edges, and each has models that go round
@@ -416,7 +471,7 @@ impl Finder<'_> {
         if !self.goes_round(alloc, signature, spans, steps)? {
             return Ok(());
         }
-        if let Some(cycle) = first_with(alloc, &self.cycles, self.len, signature, steps)? {
+        if let Some(cycle) = first_with(alloc, &self.among_kept, self.len, signature, steps)? {
             keep(found, cycle)?;
         }
         Ok(())

@@ -25,6 +25,7 @@ mod runners;
 mod search;
 mod shown;
 mod spans;
+mod starts;
 mod turns;
 
 pub use classes::classes_of;

@@ -62,7 +62,7 @@ impl Finder<'_> {
         ensures keep { OnOk result (KeepSpans reached.old reached.new) }
         ensures added { OnOk result
             (GoesOn self.now.mode (edges_of_table self.now.table.now)
-            (classes_of self.now.table.now) self.now.fronts.ground.flags.now is_last
+            (classes_of self.now.table.now) self.now.among_models.ground.flags.now is_last
             span.now reached.new) }
         ensures stopped { IfErr result (λ stop. IsUnbound self.now → stop ≡ Memory) }
     {
@@ -86,7 +86,7 @@ impl Finder<'_> {
         ensures keep { OnOk result (KeepSpans reached.old reached.new) }
         ensures added { OnOk result
             (GoesOn self.now.mode (edges_of_table self.now.table.now)
-            (classes_of self.now.table.now) self.now.fronts.ground.flags.now false
+            (classes_of self.now.table.now) self.now.among_models.ground.flags.now false
             span.now reached.new) }
         ensures stopped { IfErr result (λ stop. IsUnbound self.now → stop ≡ Memory) }
     {
@@ -116,7 +116,7 @@ impl Finder<'_> {
         ensures keep { OnOk result (KeepSpans reached.old reached.new) }
         ensures added { OnOk result
             (GoesOn self.now.mode (edges_of_table self.now.table.now)
-            (classes_of self.now.table.now) self.now.fronts.ground.flags.now true
+            (classes_of self.now.table.now) self.now.among_models.ground.flags.now true
             span.now reached.new) }
         ensures stopped { IfErr result (λ stop. IsUnbound self.now → stop ≡ Memory) }
     {
@@ -143,7 +143,7 @@ impl Finder<'_> {
         ensures added { OnOk result
             ((is_last : Bool) (f : Edge)
             → GoesOnAt self.now.mode (edges_of_table self.now.table.now)
-            (classes_of self.now.table.now) self.now.fronts.ground.flags.now
+            (classes_of self.now.table.now) self.now.among_models.ground.flags.now
             is_last span.now reached.new j f) }
     {
         let edge = &self.table[j].0;

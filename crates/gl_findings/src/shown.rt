@@ -5,14 +5,13 @@ ghost use Rattle.gl_segments.specs.Clocks.{is_before};
 ghost use Rattle.gl_filters.specs.Picked.{edges_of_table};
 ghost use Rattle.gl_filters.specs.declared.steps.Stop.TheVariants.{Memory};
 ghost use Rattle.gl_pruning.specs.OffCycles.{KeepsCycles};
-ghost use Rattle.gl_walks.specs.declared.purpose.Purpose.TheVariants.{Cycle};
 ghost use Rattle.gl_filters.specs.declared.lengths.TheConstants.{LONGEST};
 ghost use Rattle.gl_findings.specs.Findings.{classes_of, first_with};
 ghost use Rattle.gl_findings.specs.bodies.Lesser.{lesser};
 
 use crate::turns::turned;
 use gl_filters::Stop;
-use gl_walks::Walker;
+use gl_walks::{Purpose, Walker};
 use std::alloc::Global;
 
 // Of two cycles the first one, where there are any.
@@ -43,7 +42,6 @@ pub(crate) fn first_with(
     signature: &[usize],
     steps: &mut usize,
 ) -> Result<Option<Vec<usize>>, Stop>
-    requires cycles { walker.now.purpose ≡ Cycle }
     requires classes { walker.now.ground.classes.now ≡ classes_of walker.now.ground.table.now }
     requires kept { KeepsCycles (is_before walker.now.ground.order.now) walker.now.ground.mode len
         (edges_of_table walker.now.ground.table.now) walker.now.ground.flags.now }
@@ -60,7 +58,7 @@ pub(crate) fn first_with(
 {
     let mut first = None;
     for k in 0..signature.len() {
-        let walk = walker.first(alloc, turned(signature, k).as_slice(), steps)?;
+        let walk = walker.first(alloc, Purpose::Cycle, turned(signature, k).as_slice(), steps)?;
         first = lesser(first, walk);
     }
     Ok(first)

@@ -70,8 +70,8 @@ impl Span {
         waits_for(self.wanted, self.wanted_mode, edge.held, edge.held_mode)
     }
 
-    // Whether a chain leads back to where it begins.
-    fn is_round(&self) -> bool
+    /// Whether a chain leads back to where it begins.
+    pub(crate) fn is_round(&self) -> bool
         ensures { result ≡ is_round self.now }
     {
         waits_for(self.wanted, self.wanted_mode, self.held, self.held_mode)
@@ -169,18 +169,6 @@ impl Spans {
     pub(crate) fn are_exact(&self, len: usize) -> bool {
         self.are_all && len <= EXACT
     }
-
-    /// Whether a chain may lead back to where it begins, as far as is known.
-    pub(crate) fn may_close(&self) -> bool
-        ensures all { result ≡ false → self.now.are_all ≡ true }
-        ensures none { result ≡ false → (span : Span) → Contains self.now.list.items span
-            → is_round span ≡ false }
-    {
-        if !self.are_all {
-            return true;
-        }
-        any_is_round(&self.list)
-    }
 }
 
 // The spans from a place up to another one.
@@ -190,19 +178,6 @@ fn copied(alloc: Global, list: &[Span], begin: usize, end: usize) -> Result<Vec<
     ensures { IfOk result (λ part. part.items ≡ between begin end list.now) }
 {
     Vec::from_slice(alloc, &list[begin..end])
-}
-
-// Whether one of the spans is round.
-fn any_is_round(list: &[Span]) -> bool
-    ensures { result ≡ false → (span : Span) → Contains list.now span
-        → is_round span ≡ false }
-{
-    for i in 0..list.len() {
-        if list[i].is_round() {
-            return true;
-        }
-    }
-    false
 }
 
 // The spans of single models.

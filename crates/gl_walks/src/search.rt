@@ -7,6 +7,7 @@ ghost use Rattle.gl_filters.specs.Picked.{edges_of_table, picked};
 ghost use Rattle.gl_filters.specs.Test.{leads_back};
 ghost use Rattle.gl_filters.specs.declared.steps.Stop.TheVariants.{Memory, Spent};
 ghost use Rattle.gl_filters.specs.declared.lengths.TheConstants.{LONGEST};
+ghost use Rattle.gl_walks.specs.declared.purpose.Purpose.{Purpose};
 ghost use Rattle.gl_walks.specs.bodies.Listing.{Key, IsNext};
 ghost use Rattle.gl_walks.specs.bodies.Fronts.{goes_by, stays_above, may_follow, may_end, sought_by, IsFront, NoneFrom, IsLeastFrom, HasFrom, key_after, key_behind, IsIndexed};
 
@@ -23,7 +24,6 @@ use std::alloc::Global;
 #[derive(Drop)]
 pub(crate) struct Search<'a> {
     pub(crate) area: Ground<'a>,
-    pub(crate) purpose: Purpose,
     // whether it ends where its steps are taken
     pub(crate) is_bound: bool,
     // the flagged edges by their classes
@@ -34,24 +34,17 @@ pub(crate) struct Search<'a> {
 }
 
 impl<'a> Search<'a> {
-    /// The search through this ground for a purpose.
-    pub(crate) fn of(
-        alloc: Global,
-        area: Ground<'a>,
-        purpose: Purpose,
-        is_bound: bool,
-    ) -> Result<Search<'a>, Memory>
+    /// The search through this ground.
+    pub(crate) fn of(alloc: Global, area: Ground<'a>, is_bound: bool) -> Result<Search<'a>, Memory>
         requires classes { length area.classes.now ≡ length area.table.now }
         requires flags { length area.flags.now ≡ length area.table.now }
         ensures area { IfOk result (λ search. search.area ≡ area.entry) }
-        ensures purpose { IfOk result (λ search. search.purpose ≡ purpose) }
         ensures bound { IfOk result (λ search. search.is_bound ≡ is_bound) }
     {
         let by_class = area.chain(alloc, Keyed::ByClass)?;
         let by_lock = area.chain(alloc, Keyed::ByLock)?;
         Ok(Search {
             area,
-            purpose,
             is_bound,
             by_class,
             by_lock,
@@ -59,52 +52,51 @@ impl<'a> Search<'a> {
     }
 }
 
+// Whether an edge may stand in a walk that begins with this one: a cycle begins with its least thread.
+fn stays_above(purpose: Purpose, first: &Edge, edge: &Edge) -> bool
+    ensures { result ≡ stays_above purpose first.now edge.now }
+{
+    match purpose {
+        Purpose::Cycle => first.thread.number() <= edge.thread.number(),
+        Purpose::Front | Purpose::Round | Purpose::Ring => true,
+    }
+}
+
 impl Search<'_> {
     // Whether two edges may stand in one walk.
-    fn go_together(&self, e: &Edge, f: &Edge) -> bool
-        ensures { result ≡ goes_by self.now.purpose (is_before self.now.area.order.now)
+    fn go_together(&self, purpose: Purpose, e: &Edge, f: &Edge) -> bool
+        ensures { result ≡ goes_by purpose (is_before self.now.area.order.now)
             self.now.area.mode e.now f.now }
     {
-        match self.purpose {
+        match purpose {
             Purpose::Cycle | Purpose::Ring => goes_with(self.area.mode, self.area.order, e, f),
             Purpose::Front | Purpose::Round => kinds_go_together(self.area.mode, e, f),
         }
     }
 
     // Whether each edge of the path may stand in one walk with this one.
-    fn goes_with_all(&self, path: &[usize], edge: &Edge) -> bool
+    fn goes_with_all(&self, purpose: Purpose, path: &[usize], edge: &Edge) -> bool
         requires within { All (λ i. i < length (edges_of_table self.now.area.table.now)) path.now }
         ensures { result ≡ list_all
-            (λ e. goes_by self.now.purpose (is_before self.now.area.order.now)
+            (λ e. goes_by purpose (is_before self.now.area.order.now)
             self.now.area.mode e edge.now)
             (picked (edges_of_table self.now.area.table.now) path.now) }
     {
         for &i in path {
-            if !self.go_together(&self.area.table[i].0, edge) {
+            if !self.go_together(purpose, &self.area.table[i].0, edge) {
                 return false;
             }
         }
         true
     }
 
-    // Whether an edge may stand in a walk that begins with this one: a cycle begins with its least
-    // thread.
-    fn stays_above(&self, first: &Edge, edge: &Edge) -> bool
-        ensures { result ≡ stays_above self.now.purpose first.now edge.now }
-    {
-        match self.purpose {
-            Purpose::Cycle => first.thread.number() <= edge.thread.number(),
-            Purpose::Front | Purpose::Round | Purpose::Ring => true,
-        }
-    }
-
     // Whether the edge at a position may come next in the path.
-    fn may_follow(&self, path: &[usize], next: usize) -> bool
+    fn may_follow(&self, purpose: Purpose, path: &[usize], next: usize) -> bool
         requires within { All (λ i. i < length (edges_of_table self.now.area.table.now)) path.now }
         requires there { next < length self.now.area.table.now }
         ensures { (f : Edge)
             → slice_get (edges_of_table self.now.area.table.now) next ≡ Some f
-            → result ≡ may_follow self.now.purpose (is_before self.now.area.order.now)
+            → result ≡ may_follow purpose (is_before self.now.area.order.now)
             self.now.area.mode (picked (edges_of_table self.now.area.table.now) path.now) f }
     {
         if path.is_empty() {
@@ -116,10 +108,10 @@ impl Search<'_> {
         if !leads_on(&self.area.table[last].0, edge) {
             return false;
         }
-        if !self.stays_above(&self.area.table[first].0, edge) {
+        if !stays_above(purpose, &self.area.table[first].0, edge) {
             return false;
         }
-        self.goes_with_all(path, edge)
+        self.goes_with_all(purpose, path, edge)
     }
 
     // Whether the path's last edge leads back to its first.
@@ -137,12 +129,12 @@ impl Search<'_> {
     }
 
     // Whether the path may be a whole walk: a cycle has two edges or more, and goes round.
-    fn may_end(&self, path: &[usize]) -> bool
+    fn may_end(&self, purpose: Purpose, path: &[usize]) -> bool
         requires within { All (λ i. i < length (edges_of_table self.now.area.table.now)) path.now }
-        ensures { result ≡ may_end self.now.purpose
+        ensures { result ≡ may_end purpose
             (picked (edges_of_table self.now.area.table.now) path.now) }
     {
-        match self.purpose {
+        match purpose {
             Purpose::Cycle => {
                 if path.len() < 2 {
                     return false;
@@ -158,10 +150,10 @@ impl Search<'_> {
     fn begin(&self, pattern: &[usize], path: &[usize]) -> Option<usize>
         requires short { length path.now < length pattern.now }
         requires within { All (λ i. i < length (edges_of_table self.now.area.table.now)) path.now }
-        ensures { IsNext
-            (key_behind (sought_by self.now.area self.now.purpose pattern.now) path.now)
+        ensures { (purpose : Purpose) → IsNext
+            (key_behind (sought_by self.now.area purpose pattern.now) path.now)
             (length (edges_of_table self.now.area.table.now))
-            (key_after (sought_by self.now.area self.now.purpose pattern.now) path.now) 0 result }
+            (key_after (sought_by self.now.area purpose pattern.now) path.now) 0 result }
     {
         let class = pattern[path.len()];
         if path.is_empty() {
@@ -175,9 +167,9 @@ impl Search<'_> {
     // The position after `i` of the next one with the key by which `i` was found.
     fn after(&self, path: &[usize], i: usize) -> Option<usize>
         requires { i < length self.now.area.table.now }
-        ensures { (pattern : List ℕ) (k : Key)
-            → key_behind (sought_by self.now.area self.now.purpose pattern) path.now i ≡ Some k
-            → IsNext (key_behind (sought_by self.now.area self.now.purpose pattern) path.now)
+        ensures { (purpose : Purpose) (pattern : List ℕ) (k : Key)
+            → key_behind (sought_by self.now.area purpose pattern) path.now i ≡ Some k
+            → IsNext (key_behind (sought_by self.now.area purpose pattern) path.now)
             (length (edges_of_table self.now.area.table.now)) k (i + 1) result }
     {
         if path.is_empty() {
@@ -186,31 +178,33 @@ impl Search<'_> {
         self.by_lock.after(i)
     }
 
-    /// The first walk for a pattern. Each edge that may come next takes a step.
+    /// The first walk of a purpose for a pattern. Each edge that may come next takes a step.
     pub(crate) fn first(
         &self,
         alloc: Global,
+        purpose: Purpose,
         pattern: &[usize],
         steps: &mut usize,
     ) -> Result<Option<Vec<usize>>, Stop>
         requires { length pattern.now ≤ LONGEST }
         ensures found { IfOk result
             (λ found. MatchOption found
-            (NoneFrom (sought_by self.now.area self.now.purpose pattern.now) [])
-            (λ walk. IsLeastFrom (sought_by self.now.area self.now.purpose pattern.now) []
+            (NoneFrom (sought_by self.now.area purpose pattern.now) [])
+            (λ walk. IsLeastFrom (sought_by self.now.area purpose pattern.now) []
             walk.items)) }
         ensures stopped { IfErr result (λ stop. self.now.is_bound ≡ false → stop ≡ Memory) }
         ensures spent { IfErr result (λ stop. stop ≡ Spent → steps.new ≡ 0) }
         ensures fewer { steps.new ≤ steps.old }
     {
-        self.grow(alloc, pattern, &[], steps)
+        self.grow(alloc, purpose, pattern, &[], steps)
     }
 
-    /// Whether there is a walk for a pattern whose first edge holds this lock. Each edge that may come next
-    /// takes a step.
+    /// Whether there is such a walk whose first edge holds this lock. Each edge that may come next takes a
+    /// step.
     pub(crate) fn has_from(
         &self,
         alloc: Global,
+        purpose: Purpose,
         pattern: &[usize],
         lock: LockId,
         steps: &mut usize,
@@ -219,17 +213,20 @@ impl Search<'_> {
         requires fits { length pattern.now ≤ LONGEST }
         ensures has { IfOk result
             (λ has. has ≡ true
-            → HasFrom (sought_by self.now.area self.now.purpose pattern.now) lock) }
+            → HasFrom (sought_by self.now.area purpose pattern.now) lock) }
         ensures none { IfOk result
             (λ has. has ≡ false
-            → ¬ HasFrom (sought_by self.now.area self.now.purpose pattern.now) lock) }
+            → ¬ HasFrom (sought_by self.now.area purpose pattern.now) lock) }
         ensures stopped { IfErr result (λ stop. self.now.is_bound ≡ false → stop ≡ Memory) }
         ensures spent { IfErr result (λ stop. stop ≡ Spent → steps.new ≡ 0) }
         ensures fewer { steps.new ≤ steps.old }
     {
         let mut next = self.by_lock.begin(pattern[0], Some(lock));
         while let Some(i) = next {
-            if self.grow_by(alloc, pattern, &[], i, steps)?.is_some() {
+            if self
+                .grow_by(alloc, purpose, pattern, &[], i, steps)?
+                .is_some()
+            {
                 return Ok(true);
             }
             next = self.by_lock.after(i);
@@ -242,23 +239,24 @@ impl Search<'_> {
     fn grow(
         &self,
         alloc: Global,
+        purpose: Purpose,
         pattern: &[usize],
         path: &[usize],
         steps: &mut usize,
     ) -> Result<Option<Vec<usize>>, Stop>
         requires fits { length pattern.now ≤ LONGEST }
-        requires front { IsFront (sought_by self.now.area self.now.purpose pattern.now) path.now }
+        requires front { IsFront (sought_by self.now.area purpose pattern.now) path.now }
         ensures found { IfOk result
             (λ found. MatchOption found
-            (NoneFrom (sought_by self.now.area self.now.purpose pattern.now) path.now)
-            (λ walk. IsLeastFrom (sought_by self.now.area self.now.purpose pattern.now) path.now
+            (NoneFrom (sought_by self.now.area purpose pattern.now) path.now)
+            (λ walk. IsLeastFrom (sought_by self.now.area purpose pattern.now) path.now
             walk.items)) }
         ensures stopped { IfErr result (λ stop. self.now.is_bound ≡ false → stop ≡ Memory) }
         ensures spent { IfErr result (λ stop. stop ≡ Spent → steps.new ≡ 0) }
         ensures fewer { steps.new ≤ steps.old }
     {
         if path.len() == pattern.len() {
-            if !self.may_end(path) {
+            if !self.may_end(purpose, path) {
                 return Ok(None);
             }
             let walk = Vec::from_slice(alloc, path)?;
@@ -269,7 +267,7 @@ impl Search<'_> {
         }
         let mut next = self.begin(pattern, path);
         while let Some(i) = next {
-            if let Some(walk) = self.grow_by(alloc, pattern, path, i, steps)? {
+            if let Some(walk) = self.grow_by(alloc, purpose, pattern, path, i, steps)? {
                 return Ok(Some(walk));
             }
             next = self.after(path, i);
@@ -282,6 +280,7 @@ impl Search<'_> {
     fn grow_by(
         &self,
         alloc: Global,
+        purpose: Purpose,
         pattern: &[usize],
         path: &[usize],
         next: usize,
@@ -289,16 +288,16 @@ impl Search<'_> {
     ) -> Result<Option<Vec<usize>>, Stop>
         requires fits { length pattern.now ≤ LONGEST }
         requires short { length path.now < length pattern.now }
-        requires front { IsFront (sought_by self.now.area self.now.purpose pattern.now) path.now }
+        requires front { IsFront (sought_by self.now.area purpose pattern.now) path.now }
         requires there { next < length self.now.area.table.now }
         requires has { key_behind
-            (sought_by self.now.area self.now.purpose pattern.now) path.now next
-            ≡ Some (key_after (sought_by self.now.area self.now.purpose pattern.now) path.now) }
+            (sought_by self.now.area purpose pattern.now) path.now next
+            ≡ Some (key_after (sought_by self.now.area purpose pattern.now) path.now) }
         ensures found { IfOk result
             (λ found. MatchOption found
-            (NoneFrom (sought_by self.now.area self.now.purpose pattern.now)
+            (NoneFrom (sought_by self.now.area purpose pattern.now)
             (path.now ++ next ∷ []))
-            (λ walk. IsLeastFrom (sought_by self.now.area self.now.purpose pattern.now)
+            (λ walk. IsLeastFrom (sought_by self.now.area purpose pattern.now)
             (path.now ++ next ∷ []) walk.items)) }
         ensures stopped { IfErr result (λ stop. self.now.is_bound ≡ false → stop ≡ Memory) }
         ensures spent { IfErr result (λ stop. stop ≡ Spent → steps.new ≡ 0) }
@@ -306,10 +305,10 @@ impl Search<'_> {
         ensures last { self.now.is_bound ≡ true → steps.old ≡ 0 → result ≡ Err Spent }
     {
         spend_step(self.is_bound, steps)?;
-        if !self.may_follow(path, next) {
+        if !self.may_follow(purpose, path, next) {
             return Ok(None);
         }
         let longer = longer_path(path, next);
-        self.grow(alloc, pattern, longer.as_slice(), steps)
+        self.grow(alloc, purpose, pattern, longer.as_slice(), steps)
     }
 }

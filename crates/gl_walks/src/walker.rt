@@ -14,8 +14,8 @@ use gl_filters::Stop;
 use std::alloc::Global;
 use std::marker::Model;
 
-/// Finds walks for a purpose through flagged edges of given classes. Contracts see the ground, the
-/// purpose, and whether it is bound to steps.
+/// Finds walks through flagged edges of given classes. Contracts see the ground, and whether it is bound to
+/// steps.
 #[derive(Drop)]
 pub struct Walker<'a> {
     search: Search<'a>,
@@ -26,32 +26,25 @@ impl<'a> Model for Walker<'a> {
 
     ghost Value = { Walking };
 
-    ghost view = { λ w. walking w.search.area w.search.purpose w.search.is_bound };
+    ghost view = { λ w. walking w.search.area w.search.is_bound };
 }
 
 impl<'a> Walker<'a> {
-    /// The walker through this ground for a purpose, which may be bound to the steps that each call is
-    /// given. Four look-ups for each flagged edge.
+    /// The walker through this ground, which may be bound to the steps that each call is given. Four look-ups for each flagged edge.
     ///
     /// Err where memory was refused.
-    pub fn of(
-        alloc: Global,
-        area: Ground<'a>,
-        purpose: Purpose,
-        is_bound: bool,
-    ) -> Result<Walker<'a>, Memory>
+    pub fn of(alloc: Global, area: Ground<'a>, is_bound: bool) -> Result<Walker<'a>, Memory>
         requires classes { length area.classes.now ≡ length area.table.now }
         requires flags { length area.flags.now ≡ length area.table.now }
         ensures ground { IfOk result (λ walker. walker.ground ≡ area.entry) }
-        ensures purpose { IfOk result (λ walker. walker.purpose ≡ purpose) }
         ensures bound { IfOk result (λ walker. walker.is_bound ≡ is_bound) }
     {
-        let search = Search::of(alloc, area, purpose, is_bound)?;
+        let search = Search::of(alloc, area, is_bound)?;
         Ok(Walker { search })
     }
 
-    /// The positions of the first walk for a pattern: an edge of each of these classes, in turn. None
-    /// where there is no such walk.
+    /// The positions of the first walk of a purpose for a pattern: an edge of each of these classes, in turn.
+    /// None where there is no such walk.
     ///
     /// A path grows by each edge that may come next, the first one first: a look-up for each, and a
     /// test against each edge of the path. So there may be as many paths as flagged edges of a class
@@ -65,6 +58,7 @@ impl<'a> Walker<'a> {
     pub fn first(
         &self,
         alloc: Global,
+        purpose: Purpose,
         pattern: &[usize],
         steps: &mut usize,
     ) -> Result<Option<Vec<usize>>, Stop>
@@ -72,20 +66,20 @@ impl<'a> Walker<'a> {
         requires fits { length pattern.now ≤ LONGEST }
         ensures found { IfOk result
             (λ found. MatchOption found
-            (NoWalk self.now.purpose (is_before self.now.ground.order.now) self.now.ground.mode
+            (NoWalk purpose (is_before self.now.ground.order.now) self.now.ground.mode
             (edges_of_table self.now.ground.table.now) self.now.ground.classes.now
             self.now.ground.flags.now pattern.now)
-            (λ walk. IsFirstWalk self.now.purpose (is_before self.now.ground.order.now)
+            (λ walk. IsFirstWalk purpose (is_before self.now.ground.order.now)
             self.now.ground.mode (edges_of_table self.now.ground.table.now)
             self.now.ground.classes.now self.now.ground.flags.now pattern.now walk.items)) }
         ensures stopped { IfErr result (λ stop. self.now.is_bound ≡ false → stop ≡ Memory) }
         ensures spent { IfErr result (λ stop. stop ≡ Spent → steps.new ≡ 0) }
         ensures fewer { steps.new ≤ steps.old }
     {
-        self.search.first(alloc, pattern, steps)
+        self.search.first(alloc, purpose, pattern, steps)
     }
-    /// Whether there is a walk for a pattern whose first edge holds this lock. What it takes is what
-    /// [`first`](Walker::first) takes from the edges on that are of the first class and hold it.
+    /// Whether there is such a walk whose first edge holds this lock. What it takes is what
+    /// [`first`](Walker::first) takes from the edges of the first class on that hold it.
     ///
     /// # Errors
     ///
@@ -94,6 +88,7 @@ impl<'a> Walker<'a> {
     pub fn has_from(
         &self,
         alloc: Global,
+        purpose: Purpose,
         pattern: &[usize],
         lock: LockId,
         steps: &mut usize,
@@ -102,18 +97,18 @@ impl<'a> Walker<'a> {
         requires fits { length pattern.now ≤ LONGEST }
         ensures has { IfOk result
             (λ has. has ≡ true
-            → HasWalkFrom self.now.purpose (is_before self.now.ground.order.now)
+            → HasWalkFrom purpose (is_before self.now.ground.order.now)
             self.now.ground.mode (edges_of_table self.now.ground.table.now)
             self.now.ground.classes.now self.now.ground.flags.now pattern.now lock) }
         ensures none { IfOk result
             (λ has. has ≡ false
-            → ¬ HasWalkFrom self.now.purpose (is_before self.now.ground.order.now)
+            → ¬ HasWalkFrom purpose (is_before self.now.ground.order.now)
             self.now.ground.mode (edges_of_table self.now.ground.table.now)
             self.now.ground.classes.now self.now.ground.flags.now pattern.now lock) }
         ensures stopped { IfErr result (λ stop. self.now.is_bound ≡ false → stop ≡ Memory) }
         ensures spent { IfErr result (λ stop. stop ≡ Spent → steps.new ≡ 0) }
         ensures fewer { steps.new ≤ steps.old }
     {
-        self.search.has_from(alloc, pattern, lock, steps)
+        self.search.has_from(alloc, purpose, pattern, lock, steps)
     }
 }

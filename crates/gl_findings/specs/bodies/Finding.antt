@@ -5,8 +5,6 @@ use Rattle.gl_filters.specs.Picked.{edges_of_table}
 use Rattle.gl_index.specs.Indexes.{AreChainedKept, AreClosers}
 use Rattle.gl_index.specs.declared.sides.Side.TheVariants.{Leader}
 use Rattle.gl_pruning.specs.OffCycles.{KeepsCycles}
-use Rattle.gl_walks.specs.declared.purpose.Purpose.{Purpose}
-use Rattle.gl_walks.specs.declared.purpose.Purpose.TheVariants.{Cycle, Front, Round}
 use Rattle.gl_filters.specs.declared.lengths.TheConstants.{LONGEST}
 use Rattle.gl_walks.specs.declared.walker.Walker.{Walker}
 use Rattle.gl_findings.specs.Findings.{classes_of}
@@ -19,9 +17,8 @@ use Rattle.gl_findings.specs.declared.finder.Finder.{Finder}
 use Rattle.gl_findings.specs.declared.parallel.ByClass.{ByClass}
 use Rattle.gl_findings.specs.declared.spans.Spans.{Spans}
 
--- the walker looks over the search's edges, for this purpose
-pub record WalksFor (s : Finder) (walker : Walker) (aim : Purpose) : Type 0 where
-  pub same_purpose : walker.purpose ≡ aim
+-- the walker looks over the search's edges
+pub record WalksOver (s : Finder) (walker : Walker) : Type 0 where
   pub same_table : walker.ground.table.now ≡ s.table.now
   pub same_order : walker.ground.order.now ≡ s.order.now
   pub same_mode : walker.ground.mode ≡ s.mode
@@ -32,39 +29,37 @@ pub record IsReady (s : Finder) : Type 0 where
   -- a signature has room for the classes of a cycle
   pub some : 0 < s.len
   pub fits : s.len ≤ LONGEST
-  -- the one walker looks for cycles among edges that are kept, and the other two for fronts and rounds among their models
-  pub cycles : WalksFor s s.cycles Cycle
-  pub fronts : WalksFor s s.fronts Front
-  pub rounds : WalksFor s s.rounds Round
-  pub same_models : s.rounds.ground.flags.now ≡ s.fronts.ground.flags.now
+  -- the one walker looks at edges that are kept, and the other one at their models
+  pub over_kept : WalksOver s s.among_kept
+  pub over_models : WalksOver s s.among_models
   pub kept : KeepsCycles (is_before s.order.now) s.mode s.len
-      (edges_of_table s.table.now) s.cycles.ground.flags.now
+      (edges_of_table s.table.now) s.among_kept.ground.flags.now
   pub models : AreModels (edges_of_table s.table.now)
-      (classes_of s.table.now) s.cycles.ground.flags.now s.fronts.ground.flags.now
+      (classes_of s.table.now) s.among_kept.ground.flags.now s.among_models.ground.flags.now
   -- and the classes that have a model follow one another
   pub next : IsNextClass (length s.table.now)
-      (classes_of s.table.now) s.fronts.ground.flags.now s.next.now
+      (classes_of s.table.now) s.among_models.ground.flags.now s.next.now
   -- and each has the thread that runs it, where one alone does
   pub run : AreRunners (edges_of_table s.table.now)
-      (classes_of s.table.now) s.cycles.ground.flags.now s.runners.now
+      (classes_of s.table.now) s.among_kept.ground.flags.now s.runners.now
   -- and which classes lead on to which
   pub pass : ArePassages (edges_of_table s.table.now)
-      (classes_of s.table.now) s.fronts.ground.flags.now s.passages.now
+      (classes_of s.table.now) s.among_models.ground.flags.now s.passages.now
   -- and which model holds a lock, or holds one and wants another
   pub told : s.classes.now ≡ classes_of s.table.now
   pub held_by : AreChainedKept Leader (edges_of_table s.table.now)
-      s.fronts.ground.flags.now 0 s.holders.now
+      s.among_models.ground.flags.now 0 s.holders.now
   pub closed_by : AreClosers (edges_of_table s.table.now)
-      s.fronts.ground.flags.now 0 s.closers.now
+      s.among_models.ground.flags.now 0 s.closers.now
   -- and the spans of single models
   pub begin : AreReached s.mode (edges_of_table s.table.now)
-      (classes_of s.table.now) s.fronts.ground.flags.now s.len [] s.begins.now
+      (classes_of s.table.now) s.among_models.ground.flags.now s.len [] s.begins.now
 
 -- nothing ends before it is through
 abbrev pub IsUnbound : Finder → Type 0
 IsUnbound s =
-    (s.is_bound ≡ false) × (s.cycles.is_bound ≡ false) × (s.fronts.is_bound ≡ false)
-    × (s.rounds.is_bound ≡ false)
+    (s.is_bound ≡ false) × (s.among_kept.is_bound ≡ false)
+    × (s.among_models.is_bound ≡ false)
 
 -- these were added behind those before, up to the cap
 abbrev pub AreAdded : Finder → (more before after : List (List ℕ)) → Type 0
@@ -86,13 +81,13 @@ below_of s n front k = blocks_below (is_before s.order.now) s.mode s.len s.table
 abbrev pub HasSpans : Finder → List ℕ → Spans → Type 0
 HasSpans s front spans =
     HaveSpans s.mode (edges_of_table s.table.now) (classes_of s.table.now)
-    s.fronts.ground.flags.now s.len front spans
+    s.among_models.ground.flags.now s.len front spans
 
 -- and those of fronts with one class more
 abbrev pub AreReachedBy : Finder → List ℕ → Spans → Type 0
 AreReachedBy s front reached =
     AreReached s.mode (edges_of_table s.table.now) (classes_of s.table.now)
-    s.fronts.ground.flags.now s.len front reached
+    s.among_models.ground.flags.now s.len front reached
 
 -- all findings whose signature begins with the class at a place among these
 abbrev pub all_of_root : Finder → List ℕ → ℕ → List (List ℕ)

@@ -62,7 +62,7 @@ grow_on-grow_by-requires t c =
     let s = c.args.self.now in
     let short = c.requires.short in
     let room = grown_room (is_before s.order.now) s.mode s.len s.table.now (s.len - length c.args.signature.now - 1) c.args.signature.now s.cap _ _ _ c.loop-next.invariant in
-    let spans = spans_on s.mode (edges_of_table s.table.now) (classes_of s.table.now) s.fronts.ground.flags.now s.len c.args.signature.now c.loop-next.next c.args.reached.now c.in_ok-spans.spans c.requires.reached c.in_ok-spans.ensures.all c.in_ok-spans.ensures.has in (
+    let spans = spans_on s.mode (edges_of_table s.table.now) (classes_of s.table.now) s.among_models.ground.flags.now s.len c.args.signature.now c.loop-next.next c.args.reached.now c.in_ok-spans.spans c.requires.reached c.in_ok-spans.ensures.all c.in_ok-spans.ensures.has in (
       search rules,
       (short, (c.requires.within, (omega arith, (c.requires.ready, (spans, omega (arith, room, length-map c.loop-next.found.items (λ cycle. cycle.items))))))),
     )

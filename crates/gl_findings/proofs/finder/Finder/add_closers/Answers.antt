@@ -12,7 +12,7 @@ pub loop-next-init : goal.loop-next-init
 loop-next-init c =
     let s = c.args.self.now in
     let edges = edges_of_table s.table.now in
-    let flags = s.fronts.ground.flags.now in
+    let flags = s.among_models.ground.flags.now in
     let span = c.args.span.now in (
       passed_none both_locks edges flags (span.wanted, span.held) (GoesOnAt s.mode edges (classes_of s.table.now) flags true span c.args.reached.now) c.begin-next.result (c.begin-next.ensures edges flags c.requires.ready.closed_by),
       keep_same c.args.reached.now,
@@ -22,7 +22,7 @@ pub loop-next-smaller : goal.loop-next-smaller
 loop-next-smaller c =
     let s = c.args.self.now in
     let edges = edges_of_table s.table.now in
-    let flags = s.fronts.ground.flags.now in
+    let flags = s.among_models.ground.flags.now in
     let next = rw c.in-Some.is at c.loop-next.invariant.0 in
     let there = element_at edges c.in-Some.j next.shares.0 in
     fewer_left (length edges) (length s.table.now) c.loop-next.next c.in-Some.j c.after-next.result (length-map s.table.now (λ pair. pair.0)) c.in-Some.is next.shares.0
@@ -33,7 +33,7 @@ loop-next-preserved c =
     let s = c.args.self.now in
     let edges = edges_of_table s.table.now in
     let classes = classes_of s.table.now in
-    let flags = s.fronts.ground.flags.now in
+    let flags = s.among_models.ground.flags.now in
     let span = c.args.span.now in
     let j = c.in-Some.j in
     let old = c.loop-next.reached in
@@ -49,4 +49,4 @@ pub returns-clause-added : goal.returns-clause-added
 returns-clause-added c =
     let s = c.args.self.now in
     let span = c.args.span.now in
-    goes_on_all s.mode (edges_of_table s.table.now) (classes_of s.table.now) s.fronts.ground.flags.now true span both_locks (span.wanted, span.held) c.loop-next.reached (λ class place f goes round. tells_both span class place f goes (round refl)) (rw c.in_default.is at c.loop-next.invariant.0)
+    goes_on_all s.mode (edges_of_table s.table.now) (classes_of s.table.now) s.among_models.ground.flags.now true span both_locks (span.wanted, span.held) c.loop-next.reached (λ class place f goes round. tells_both span class place f goes (round refl)) (rw c.in_default.is at c.loop-next.invariant.0)

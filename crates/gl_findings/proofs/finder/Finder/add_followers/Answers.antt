@@ -13,7 +13,7 @@ pub loop-next-init : goal.loop-next-init
 loop-next-init c =
     let s = c.args.self.now in
     let edges = edges_of_table s.table.now in
-    let flags = s.fronts.ground.flags.now in
+    let flags = s.among_models.ground.flags.now in
     let span = c.args.span.now in (
       passed_none (lock_towards Leader) edges flags span.wanted (GoesOnAt s.mode edges (classes_of s.table.now) flags false span c.args.reached.now) c.begin-next.result (c.begin-next.ensures edges flags Leader c.requires.ready.held_by),
       keep_same c.args.reached.now,
@@ -23,7 +23,7 @@ pub loop-next-smaller : goal.loop-next-smaller
 loop-next-smaller c =
     let s = c.args.self.now in
     let edges = edges_of_table s.table.now in
-    let flags = s.fronts.ground.flags.now in
+    let flags = s.among_models.ground.flags.now in
     let next = rw c.in-Some.is at c.loop-next.invariant.0 in
     let there = element_at edges c.in-Some.j next.shares.0 in
     fewer_left (length edges) (length s.table.now) c.loop-next.next c.in-Some.j c.after-next.result (length-map s.table.now (λ pair. pair.0)) c.in-Some.is next.shares.0
@@ -34,7 +34,7 @@ loop-next-preserved c =
     let s = c.args.self.now in
     let edges = edges_of_table s.table.now in
     let classes = classes_of s.table.now in
-    let flags = s.fronts.ground.flags.now in
+    let flags = s.among_models.ground.flags.now in
     let span = c.args.span.now in
     let j = c.in-Some.j in
     let old = c.loop-next.reached in
@@ -50,4 +50,4 @@ pub returns-clause-added : goal.returns-clause-added
 returns-clause-added c =
     let s = c.args.self.now in
     let span = c.args.span.now in
-    goes_on_all s.mode (edges_of_table s.table.now) (classes_of s.table.now) s.fronts.ground.flags.now false span (lock_towards Leader) span.wanted c.loop-next.reached (λ class place f goes round. tells_held span f goes) (rw c.in_default.is at c.loop-next.invariant.0)
+    goes_on_all s.mode (edges_of_table s.table.now) (classes_of s.table.now) s.among_models.ground.flags.now false span (lock_towards Leader) span.wanted c.loop-next.reached (λ class place f goes round. tells_held span f goes) (rw c.in_default.is at c.loop-next.invariant.0)

@@ -11,7 +11,7 @@ use Rattle.gl_findings.proofs.finder.Finder.add_followers.Given as goal
 -- chains that go on with one of those so far have their spans, and none is lost
 abbrev pub invariant-loop-next : goal.invariant-loop-next
 invariant-loop-next l =
-    ArePassed (lock_towards Leader) (edges_of_table l.self.table.now) l.self.fronts.ground.flags.now l.span.wanted (GoesOnAt l.self.mode (edges_of_table l.self.table.now) (classes_of l.self.table.now) l.self.fronts.ground.flags.now false l.span l.reached) l.next
+    ArePassed (lock_towards Leader) (edges_of_table l.self.table.now) l.self.among_models.ground.flags.now l.span.wanted (GoesOnAt l.self.mode (edges_of_table l.self.table.now) (classes_of l.self.table.now) l.self.among_models.ground.flags.now false l.span l.reached) l.next
     × KeepSpans l.initial.reached l.reached
 
 -- how many positions are left to look at

@@ -17,7 +17,7 @@ loop-i-preserved c =
     let list = spans.list.items in
     let span = c.index.result.now in
     let within : c.loop-i.i < length list = omega (arith, c.loop-i-test.true, c.len-i-end.ensures, spans.list.ok.0) in
-    followed_more s.mode (edges_of_table s.table.now) (classes_of s.table.now) s.fronts.ground.flags.now (eqb (length c.args.front.now + 1) s.len) spans c.loop-i.i span c.loop-i.reached c.add_after.new.reached within
+    followed_more s.mode (edges_of_table s.table.now) (classes_of s.table.now) s.among_models.ground.flags.now (eqb (length c.args.front.now + 1) s.len) spans c.loop-i.i span c.loop-i.reached c.add_after.new.reached within
     (λ d. get_or_default list c.loop-i.i d span within ∙ sym c.index.ensures) c.in_ok-add_after.ensures.keep c.in_ok-add_after.ensures.added c.loop-i.invariant
 
 pub returns-clause-reached : goal.returns-clause-reached
@@ -25,7 +25,7 @@ returns-clause-reached c =
     let s = c.args.self.now in
     let edges = edges_of_table s.table.now in
     let classes = classes_of s.table.now in
-    let flags = s.fronts.ground.flags.now in
+    let flags = s.among_models.ground.flags.now in
     let front = c.args.front.now in
     let spans = c.args.spans.now in
     let is_last = eqb (length front + 1) s.len in

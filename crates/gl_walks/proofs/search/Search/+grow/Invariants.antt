@@ -12,7 +12,7 @@ decreases-grow_by l = 2 * (length l.pattern.now - length l.path.now)
 
 -- no walk goes on with a position before the next one, and no step was given back
 abbrev pub invariant-grow-loop-next : goal.invariant-grow-loop-next
-invariant-grow-loop-next l = HasPassed (sought_by l.self.area l.self.purpose l.pattern) l.path l.next × (l.steps ≤ l.initial.steps)
+invariant-grow-loop-next l = HasPassed (sought_by l.self.area l.purpose l.pattern) l.path l.next × (l.steps ≤ l.initial.steps)
 
 -- how many positions are left
 abbrev pub decreases-grow-loop-next : goal.decreases-grow-loop-next

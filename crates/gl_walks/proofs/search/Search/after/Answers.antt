@@ -9,16 +9,16 @@ use Rattle.gl_walks.proofs.search.Search.after.Goals as goal
 
 -- the first edge
 pub returns-then-is_empty : goal.returns-then-is_empty
-returns-then-is_empty c = λ pattern k at.
+returns-then-is_empty c = λ p pattern k at.
     let s = c.args.self.now in
     let edges = edges_of_table s.area.table.now in
-    goes_on_by_class (sought_by s.area s.purpose pattern) c.args.path.now k c.args.i _ (none_from_test c.args.path.now c.if-is_empty.ensures) at
+    goes_on_by_class (sought_by s.area p pattern) c.args.path.now k c.args.i _ (none_from_test c.args.path.now c.if-is_empty.ensures) at
     (c.after.ensures (key_at ByClass edges s.area.classes.now s.area.flags.now) (length edges) k s.indexed.through_classes)
 
 -- a later one
 pub returns : goal.returns
-returns c = λ pattern k at.
+returns c = λ p pattern k at.
     let s = c.args.self.now in
     let edges = edges_of_table s.area.table.now in
-    goes_on_by_lock (sought_by s.area s.purpose pattern) c.args.path.now k c.args.i _ (some_from_test c.args.path.now c.if-is_empty.ensures) at
+    goes_on_by_lock (sought_by s.area p pattern) c.args.path.now k c.args.i _ (some_from_test c.args.path.now c.if-is_empty.ensures) at
     (c.after-2.ensures (key_at ByLock edges s.area.classes.now s.area.flags.now) (length edges) k s.indexed.through_locks)

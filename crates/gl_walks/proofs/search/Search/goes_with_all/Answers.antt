@@ -8,12 +8,12 @@ use Rattle.gl_walks.proofs.search.Search.goes_with_all.Goals as goal
 pub returns-then-not-go_together : goal.returns-then-not-go_together
 returns-then-not-go_together c =
     let s = c.args.self.now in
-    sym (all_not s.area.table.now c.args.path.now c.requires.within (λ e. goes_by s.purpose (is_before s.area.order.now) s.area.mode e c.args.edge.now)
+    sym (all_not s.area.table.now c.args.path.now c.requires.within (λ e. goes_by c.args.purpose (is_before s.area.order.now) s.area.mode e c.args.edge.now)
     c.loop-i.i-index _ c.loop-i-test.true (sym c.go_together.ensures ∙ c.if-not-go_together.true))
 
 -- one more goes with it
 pub loop-i-preserved : goal.loop-i-preserved
 loop-i-preserved c =
     let s = c.args.self.now in
-    all_more s.area.table.now c.args.path.now c.requires.within (λ e. goes_by s.purpose (is_before s.area.order.now) s.area.mode e c.args.edge.now)
+    all_more s.area.table.now c.args.path.now c.requires.within (λ e. goes_by c.args.purpose (is_before s.area.order.now) s.area.mode e c.args.edge.now)
     c.loop-i.i-index _ c.loop-i-test.true c.loop-i.invariant (sym c.go_together.ensures ∙ c.if-not-go_together.false)

@@ -29,7 +29,7 @@ returns-then-not-leads_on c = λ f at.
     let table = s.area.table.now in
     let is = is_there table c.args.next c.index-self-next.result f c.requires.there at in
     let ends = ends_by_table table c.args.path.now c.requires.within c.index-self-last.result c.index-self-last.result (some_from_test c.args.path.now c.if-is_empty.ensures) in
-    sym (follows_by (edges_of_table table) c.args.path.now _ _ ends s.purpose (is_before s.area.order.now) s.area.mode f
+    sym (follows_by (edges_of_table table) c.args.path.now _ _ ends c.args.purpose (is_before s.area.order.now) s.area.mode f
     ∙ and_left _ _ (ap (λ x. leads_to (get_or table (get_or c.args.path.now (length c.args.path.now - 1) 0) c.index-self-last.result).0 x) is ∙ sym c.if-not-leads_on.ensures))
 
 -- it may not stand in a walk that begins so
@@ -39,8 +39,8 @@ returns-then-not-stays_above c = λ f at.
     let table = s.area.table.now in
     let is = is_there table c.args.next c.index-self-next.result f c.requires.there at in
     let ends = ends_by_table table c.args.path.now c.requires.within c.index-self-first.result c.index-self-last.result (some_from_test c.args.path.now c.if-is_empty.ensures) in
-    sym (follows_by (edges_of_table table) c.args.path.now _ _ ends s.purpose (is_before s.area.order.now) s.area.mode f
-    ∙ and_right _ _ (and_right _ _ (ap (stays_above s.purpose (get_or table (get_or c.args.path.now 0 0) c.index-self-first.result).0) is ∙ sym c.if-not-stays_above.ensures)))
+    sym (follows_by (edges_of_table table) c.args.path.now _ _ ends c.args.purpose (is_before s.area.order.now) s.area.mode f
+    ∙ and_right _ _ (and_right _ _ (ap (stays_above c.args.purpose (get_or table (get_or c.args.path.now 0 0) c.index-self-first.result).0) is ∙ sym c.if-not-stays_above.ensures)))
 
 -- the rest is whether each edge of the path goes with it
 pub returns : goal.returns
@@ -49,5 +49,5 @@ returns c = λ f at.
     let table = s.area.table.now in
     let is = is_there table c.args.next c.index-self-next.result f c.requires.there at in
     let ends = ends_by_table table c.args.path.now c.requires.within c.index-self-first.result c.index-self-last.result (some_from_test c.args.path.now c.if-is_empty.ensures) in
-    rw is (c.goes_with_all.ensures ∙ sym (follows_by (edges_of_table table) c.args.path.now _ _ ends s.purpose (is_before s.area.order.now) s.area.mode _
+    rw is (c.goes_with_all.ensures ∙ sym (follows_by (edges_of_table table) c.args.path.now _ _ ends c.args.purpose (is_before s.area.order.now) s.area.mode _
     ∙ both _ _ _ (sym c.if-not-leads_on.ensures) (sym c.if-not-stays_above.ensures)))
