@@ -20,14 +20,17 @@ use gl_segments::Order;
 use std::alloc::Global;
 use std::thread::Threads;
 
-// The findings that are listed, where a search that is told this finds them in a few steps for each edge. None
-// where it doesn't.
+// How many times as many steps a search is given once more, where there is a cycle.
+const MORE: usize = 16;
+
+// The findings that are listed, where a search that is told this finds them in so many steps. None where it doesn't.
 fn found_within(
     alloc: Global,
     edges: &EdgeList,
     order: &Order,
     query: &Query,
     grounds: &Grounds,
+    steps: usize,
 ) -> Result<Option<Found>, Memory>
     requires { AreGrounds (is_before order.now) query.now.mode query.now.len edges.now grounds.now }
     ensures { IfOk result
@@ -35,26 +38,25 @@ fn found_within(
         (λ found. found ≡ listed_findings query.now (is_before order.now) edges.now)) }
 {
     let finder = Finder::of(alloc, edges, order, query, grounds, true)?;
-    match finder.findings_within(alloc, first_steps(edges.entries().len()))? {
+    match finder.findings_within(alloc, steps)? {
         Some(findings) => Ok(Some(Found::listed(findings, query.max() as usize))),
         None => Ok(None),
     }
 }
 
-// The same, where a search among the edges that are kept at first finds them so.
-fn found_soon(
+// The grounds of the edges that are kept at first.
+fn grounds_at_first(
     alloc: Global,
     edges: &EdgeList,
     order: &Order,
     query: &Query,
-) -> Result<Option<Found>, Memory>
+) -> Result<Grounds, Memory>
     ensures { IfOk result
-        (λ soon. IfSome soon
-        (λ found. found ≡ listed_findings query.now (is_before order.now) edges.now)) }
+        (AreGrounds (is_before order.now) query.now.mode query.now.len edges.now) }
 {
     let kept = Sought::of(edges, order, query).kept_at_first(alloc)?;
     let grounds = Grounds::of(alloc, edges, kept)?;
-    found_within(alloc, edges, order, query, &grounds)
+    Ok(grounds)
 }
 
 // The same question, but of cycles no longer than those of these edges can be, and of two edges at least.
@@ -165,10 +167,16 @@ fn found_by(alloc: Global, edges: &EdgeList, order: &Order, query: &Query) -> Re
     ensures { IfOk result
         (λ found. found ≡ listed_findings query.now (is_before order.now) edges.now) }
 {
-    if let Some(found) = found_soon(alloc, edges, order, query)? {
+    let grounds = grounds_at_first(alloc, edges, order, query)?;
+    let steps = first_steps(edges.entries().len());
+    if let Some(found) = found_within(alloc, edges, order, query, &grounds, steps)? {
         return Ok(found);
     }
     if let Some(found) = none_found(alloc, edges, order, query)? {
+        return Ok(found);
+    }
+    let steps = steps.saturating_mul(MORE);
+    if let Some(found) = found_within(alloc, edges, order, query, &grounds, steps)? {
         return Ok(found);
     }
     let kept = edges_sought(alloc, edges, order, query)?;
@@ -187,10 +195,16 @@ fn found_by_parallel(
     ensures { IfOk result
         (λ found. found ≡ listed_findings query.now (is_before order.now) edges.now) }
 {
-    if let Some(found) = found_soon(alloc, edges, order, query)? {
+    let grounds = grounds_at_first(alloc, edges, order, query)?;
+    let steps = first_steps(edges.entries().len());
+    if let Some(found) = found_within(alloc, edges, order, query, &grounds, steps)? {
         return Ok(found);
     }
     if let Some(found) = none_found_parallel(rt, alloc, edges, order, query)? {
+        return Ok(found);
+    }
+    let steps = steps.saturating_mul(MORE);
+    if let Some(found) = found_within(alloc, edges, order, query, &grounds, steps)? {
         return Ok(found);
     }
     let kept = edges_sought_parallel(rt, alloc, edges, order, query)?;
@@ -208,8 +222,8 @@ fn found_by_parallel(
 /// places on.
 ///
 /// A search among the edges that [are kept at first](Sought::kept_at_first) comes first, with a few steps for
-/// each edge. Where these don't suffice, a cycle is looked for: without one there are no findings. Else what can be
-/// seen to be in no cycle is left out, and the search begins once more.
+/// each edge. Where these don't suffice, a cycle is looked for: without one there are no findings. Else it begins again
+/// with more steps; and where these don't suffice either, what can be seen to be in no cycle is left out, and it begins once more.
 ///
 /// There may be as many signatures as classes to the power of the greatest length of a cycle: the query's, or
 /// [how many edges a cycle can have](Sought::shortened), where that is less. Threads that run the same code add none.

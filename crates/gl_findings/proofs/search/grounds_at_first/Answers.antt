@@ -1,11 +1,11 @@
 use Rattle.gl_segments.specs.Clocks.{is_before}
 use Rattle.gl_filters.specs.Picked.{edges_of_table}
 use Rattle.gl_pruning.specs.OffCycles.{KeepsCycles}
-use Rattle.gl_findings.proofs.search.found_soon.Goals as goal
+use Rattle.gl_findings.proofs.search.grounds_at_first.Goals as goal
 
 -- what is left out at first is in no cycle
-pub found_within-requires : goal.found_within-requires
-found_within-requires c =
+pub returns : goal.returns
+returns c =
     let before = is_before c.args.order.now in
     let asked = c.args.query.now in
     let sought = c.of.ensures in
