@@ -135,11 +135,12 @@ impl<'a> Finder<'a> {
 }
 
 impl Finder<'_> {
-    // The first findings, up to the cap. None where so many steps don't suffice.
+    // The first findings, up to the cap. None where so many steps don't suffice; it tells how many there are by then.
     pub(crate) fn findings_within(
         &self,
         alloc: Global,
         steps: usize,
+        count: &mut usize,
     ) -> Result<Option<Vec<Vec<usize>>>, Memory>
         requires ready { IsReady self.now }
         ensures { IfOk result
@@ -151,7 +152,9 @@ impl Finder<'_> {
     {
         let mut steps = steps;
         let mut found = Vec::new(alloc);
-        match self.grow_on(alloc, &[], self.begins, 0, &mut steps, &mut found) {
+        let ended = self.grow_on(alloc, &[], self.begins, 0, &mut steps, &mut found);
+        *count = found.len();
+        match ended {
             Ok(()) => Ok(Some(found)),
             Err(Stop::Spent) => Ok(None),
             Err(Stop::Memory) => Err(AllocError),

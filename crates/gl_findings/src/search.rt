@@ -20,10 +20,14 @@ use gl_segments::Order;
 use std::alloc::Global;
 use std::thread::Threads;
 
-// How many times as many steps a search is given once more, where there is a cycle.
+// How many times as many steps a search is given once more, where it found some share of what is asked for.
 const MORE: usize = 16;
 
-// The findings that are listed, where a search that is told this finds them in so many steps. None where it doesn't.
+// What share it has to find.
+const SHARE: usize = 16;
+
+// The findings that are listed, where a search that is told this finds them in so many steps. None where it doesn't; it tells how
+// many it found.
 fn found_within(
     alloc: Global,
     edges: &EdgeList,
@@ -31,6 +35,7 @@ fn found_within(
     query: &Query,
     grounds: &Grounds,
     steps: usize,
+    count: &mut usize,
 ) -> Result<Option<Found>, Memory>
     requires { AreGrounds (is_before order.now) query.now.mode query.now.len edges.now grounds.now }
     ensures { IfOk result
@@ -38,7 +43,7 @@ fn found_within(
         (λ found. found ≡ listed_findings query.now (is_before order.now) edges.now)) }
 {
     let finder = Finder::of(alloc, edges, order, query, grounds, true)?;
-    match finder.findings_within(alloc, steps)? {
+    match finder.findings_within(alloc, steps, count)? {
         Some(findings) => Ok(Some(Found::listed(findings, query.max() as usize))),
         None => Ok(None),
     }
@@ -57,6 +62,46 @@ fn grounds_at_first(
     let kept = Sought::of(edges, order, query).kept_at_first(alloc)?;
     let grounds = Grounds::of(alloc, edges, kept)?;
     Ok(grounds)
+}
+
+// The same, in a few steps for each edge.
+fn found_soon(
+    alloc: Global,
+    edges: &EdgeList,
+    order: &Order,
+    query: &Query,
+    grounds: &Grounds,
+    count: &mut usize,
+) -> Result<Option<Found>, Memory>
+    requires { AreGrounds (is_before order.now) query.now.mode query.now.len edges.now grounds.now }
+    ensures { IfOk result
+        (λ soon. IfSome soon
+        (λ found. found ≡ listed_findings query.now (is_before order.now) edges.now)) }
+{
+    let steps = first_steps(edges.entries().len());
+    found_within(alloc, edges, order, query, grounds, steps, count)
+}
+
+// The same in more steps, where so many that were found before are a share of what is asked for.
+fn found_later(
+    alloc: Global,
+    edges: &EdgeList,
+    order: &Order,
+    query: &Query,
+    grounds: &Grounds,
+    before: usize,
+) -> Result<Option<Found>, Memory>
+    requires { AreGrounds (is_before order.now) query.now.mode query.now.len edges.now grounds.now }
+    ensures { IfOk result
+        (λ soon. IfSome soon
+        (λ found. found ≡ listed_findings query.now (is_before order.now) edges.now)) }
+{
+    if before < query.max() as usize / SHARE {
+        return Ok(None);
+    }
+    let steps = first_steps(edges.entries().len()).saturating_mul(MORE);
+    let mut count = 0;
+    found_within(alloc, edges, order, query, grounds, steps, &mut count)
 }
 
 // The same question, but of cycles no longer than those of these edges can be, and of two edges at least.
@@ -168,15 +213,14 @@ fn found_by(alloc: Global, edges: &EdgeList, order: &Order, query: &Query) -> Re
         (λ found. found ≡ listed_findings query.now (is_before order.now) edges.now) }
 {
     let grounds = grounds_at_first(alloc, edges, order, query)?;
-    let steps = first_steps(edges.entries().len());
-    if let Some(found) = found_within(alloc, edges, order, query, &grounds, steps)? {
+    let mut count = 0;
+    if let Some(found) = found_soon(alloc, edges, order, query, &grounds, &mut count)? {
         return Ok(found);
     }
     if let Some(found) = none_found(alloc, edges, order, query)? {
         return Ok(found);
     }
-    let steps = steps.saturating_mul(MORE);
-    if let Some(found) = found_within(alloc, edges, order, query, &grounds, steps)? {
+    if let Some(found) = found_later(alloc, edges, order, query, &grounds, count)? {
         return Ok(found);
     }
     let kept = edges_sought(alloc, edges, order, query)?;
@@ -196,15 +240,14 @@ fn found_by_parallel(
         (λ found. found ≡ listed_findings query.now (is_before order.now) edges.now) }
 {
     let grounds = grounds_at_first(alloc, edges, order, query)?;
-    let steps = first_steps(edges.entries().len());
-    if let Some(found) = found_within(alloc, edges, order, query, &grounds, steps)? {
+    let mut count = 0;
+    if let Some(found) = found_soon(alloc, edges, order, query, &grounds, &mut count)? {
         return Ok(found);
     }
     if let Some(found) = none_found_parallel(rt, alloc, edges, order, query)? {
         return Ok(found);
     }
-    let steps = steps.saturating_mul(MORE);
-    if let Some(found) = found_within(alloc, edges, order, query, &grounds, steps)? {
+    if let Some(found) = found_later(alloc, edges, order, query, &grounds, count)? {
         return Ok(found);
     }
     let kept = edges_sought_parallel(rt, alloc, edges, order, query)?;
@@ -223,7 +266,7 @@ fn found_by_parallel(
 ///
 /// A search among the edges that [are kept at first](Sought::kept_at_first) comes first, with a few steps for
 /// each edge. Where these don't suffice, a cycle is looked for: without one there are no findings. Else it begins again
-/// with more steps; and where these don't suffice either, what can be seen to be in no cycle is left out, and it begins once more.
+/// with more steps, where it found some share of what is asked for; and where these don't suffice either, what can be seen to be in no cycle is left out, and it begins once more.
 ///
 /// There may be as many signatures as classes to the power of the greatest length of a cycle: the query's, or
 /// [how many edges a cycle can have](Sought::shortened), where that is less. Threads that run the same code add none.

@@ -1,5 +1,5 @@
 -- What a path's first and last edge tell of it.
-use Rattle.std.proofs.Common.{◌≡◌, ℕ, ◌+◌, ◌<◌, ◌≤◌, Bool, ◌&&◌, List, [], ◌∷◌, length, Option, Some, None, sym, ap, subst, ◌∙◌, arith}
+use Rattle.std.proofs.Common.{◌≡◌, ℕ, ◌+◌, ◌<◌, ◌≤◌, Bool, ◌&&◌, List, [], ◌∷◌, ◌++◌, refl, length, Option, Some, None, sym, ap, subst, ◌∙◌, arith}
 use Rattle.std.specs.Prelude.{slice_get, unwrap_or}
 use Rattle.std.specs.List.{list_all}
 use Rattle.std.proofs.lemmas.Bool.{le-leb}
@@ -8,7 +8,7 @@ use Rattle.gl_event.specs.declared.events.Segment.{Segment}
 use Rattle.gl_edges.specs.declared.edge.Edge.{Edge}
 use Rattle.gl_filters.specs.declared.query.Mode.{Mode}
 use Rattle.gl_filters.specs.Picked.{picked}
-use Rattle.gl_filters.specs.Test.{leads_to, leads_back}
+use Rattle.gl_filters.specs.Test.{leads_to, leads_back, last_of}
 use Rattle.gl_walks.specs.declared.chains.Chain.{Chain}
 use Rattle.gl_walks.specs.declared.keys.Keyed.TheVariants.{ByClass, ByLock}
 use Rattle.gl_walks.specs.declared.purpose.Purpose.{Purpose}
@@ -16,7 +16,7 @@ use Rattle.gl_walks.specs.declared.purpose.Purpose.TheVariants.{Cycle}
 use Rattle.gl_walks.specs.declared.ground.Ground.{Ground}
 use Rattle.gl_walks.specs.bodies.Listing.{Key, IsNext, key_at}
 use Rattle.gl_walks.specs.bodies.Fronts.{goes_by, stays_above, may_follow, may_end, Sought, sought_by, IsEven, IsIndexed, lock_after, key_after, key_behind}
-use Rattle.gl_walks.proofs.Places.{AreEnds, AreWithin, length-picked}
+use Rattle.gl_walks.proofs.Places.{AreEnds, AreWithin, length-picked, picked-push}
 
 module _ (edges : List Edge) (path : List ℕ) (first last : Edge) (ends : AreEnds edges path first last) where
   -- whether it is closed
@@ -72,3 +72,13 @@ even_by area purpose pattern by_class by_lock indexed = record {
   classes = indexed.classes ∙ sym (length-map area.table.now (λ pair. pair.0));
   flags = indexed.flags ∙ sym (length-map area.table.now (λ pair. pair.0));
 }
+
+-- the edge that comes last
+last_push : (e : Edge) (es : List Edge) (f : Edge) → last_of e (es ++ f ∷ []) ≡ f
+last_push e [] f = refl
+last_push e (d ∷ es) f = last_push d es f
+
+-- a path with an edge more leads back where this edge leads to its first
+pub round_by : (edges : List Edge) (path : List ℕ) (i : ℕ) (e g f : Edge) → AreEnds edges path e g → slice_get edges i ≡ Some f → leads_back (picked edges (path ++ i ∷ [])) ≡ leads_to f e
+round_by edges path i e g f ends at =
+    ap leads_back (picked-push edges path i f at ∙ ap (λ es. es ++ f ∷ []) ends.are) ∙ ap (λ d. leads_to d e) (last_push e ends.others f)

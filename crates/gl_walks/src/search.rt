@@ -146,6 +146,35 @@ impl Search<'_> {
         }
     }
 
+    // Whether the path is none, or the edge at a position leads back to its first one.
+    fn leads_round(&self, path: &[usize], next: usize) -> bool
+        requires within { All (λ i. i < length (edges_of_table self.now.area.table.now)) path.now }
+        requires there { next < length self.now.area.table.now }
+        ensures { result ≡ false
+            → leads_back (picked (edges_of_table self.now.area.table.now)
+            (path.now ++ next ∷ [])) ≡ false }
+    {
+        if path.is_empty() {
+            return true;
+        }
+        let first = path[0];
+        leads_on(&self.area.table[next].0, &self.area.table[first].0)
+    }
+
+    // Whether the edge at a position may be the last one of a walk that begins with the path, as far as both ends tell.
+    fn may_be_last(&self, purpose: Purpose, path: &[usize], next: usize) -> bool
+        requires within { All (λ i. i < length (edges_of_table self.now.area.table.now)) path.now }
+        requires there { next < length self.now.area.table.now }
+        ensures { result ≡ false
+            → may_end purpose (picked (edges_of_table self.now.area.table.now)
+            (path.now ++ next ∷ [])) ≡ false }
+    {
+        match purpose {
+            Purpose::Front => true,
+            Purpose::Cycle | Purpose::Round | Purpose::Ring => self.leads_round(path, next),
+        }
+    }
+
     // The first position that may come next in the path, by its class and the lock that it holds.
     fn begin(&self, pattern: &[usize], path: &[usize]) -> Option<usize>
         requires short { length path.now < length pattern.now }
@@ -305,6 +334,9 @@ impl Search<'_> {
         ensures last { self.now.is_bound ≡ true → steps.old ≡ 0 → result ≡ Err Spent }
     {
         spend_step(self.is_bound, steps)?;
+        if path.len() + 1 == pattern.len() && !self.may_be_last(purpose, path, next) {
+            return Ok(None);
+        }
         if !self.may_follow(purpose, path, next) {
             return Ok(None);
         }

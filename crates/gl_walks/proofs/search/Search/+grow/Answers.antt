@@ -1,4 +1,4 @@
-use Rattle.std.proofs.Common.{◌≡◌, ℕ, ◌+◌, ◌<◌, List, [], ◌∷◌, ◌++◌, length, sym, ap, subst, ◌∙◌, arith, rules}
+use Rattle.std.proofs.Common.{◌≡◌, refl, ℕ, ◌+◌, ◌<◌, List, [], ◌∷◌, ◌++◌, length, sym, ap, subst, ◌∙◌, arith, rules}
 use Rattle.std.specs.Prelude.{MatchOption}
 use Rattle.std.proofs.lemmas.List.{length-map, length_push}
 use Rattle.gl_filters.specs.Picked.{edges_of_table, picked}
@@ -113,3 +113,8 @@ grow_by-grow-requires t c =
             (longer_front s (even c.args.self.now c.args.purpose c.args.pattern.now) c.args.path.now c.args.next here.0 c.requires.short c.requires.front within c.requires.has here.1 follows),
       ),
     )
+
+-- the edge would be the last one, and doesn't lead back
+pub grow_by-returns-then-not-may_be_last-clause-found : goal.grow_by-returns-then-not-may_be_last-clause-found
+grow_by-returns-then-not-may_be_last-clause-found t c =
+    whole_none (sought c.args.self.now c.args.purpose c.args.pattern.now) (c.args.path.now ++ c.args.next ∷ []) (omega (arith, length_push c.args.path.now c.args.next)) (c.if-not-may_be_last.ensures refl)
