@@ -10,6 +10,7 @@ ghost use Rattle.gl_findings.specs.bodies.Told.{AreGrounds};
 
 use crate::finder::Finder;
 use crate::grounds::Grounds;
+use crate::grouped::{findings_of_cycles, findings_of_cycles_parallel};
 use crate::parallel::first_findings;
 use gl_cycles::{Found, edges_sought, edges_sought_parallel, first_steps, search, search_parallel};
 use gl_edges::EdgeList;
@@ -171,6 +172,9 @@ fn found_by(alloc: Global, edges: &EdgeList, order: &Order, query: &Query) -> Re
     if let Some(found) = none_found(alloc, edges, order, query)? {
         return Ok(found);
     }
+    if let Some(found) = findings_of_cycles(alloc, edges, order, query)? {
+        return Ok(found);
+    }
     let kept = edges_sought(alloc, edges, order, query)?;
     let grounds = Grounds::of(alloc, edges, kept)?;
     first_found(alloc, edges, order, query, &grounds)
@@ -191,6 +195,9 @@ fn found_by_parallel(
         return Ok(found);
     }
     if let Some(found) = none_found_parallel(rt, alloc, edges, order, query)? {
+        return Ok(found);
+    }
+    if let Some(found) = findings_of_cycles_parallel(rt, alloc, edges, order, query)? {
         return Ok(found);
     }
     let kept = edges_sought_parallel(rt, alloc, edges, order, query)?;

@@ -58,7 +58,12 @@ pub(crate) fn first_with(
 {
     let mut first = None;
     for k in 0..signature.len() {
-        let walk = walker.first(alloc, Purpose::Cycle, turned(signature, k).as_slice(), steps)?;
+        let walk = walker.first(
+            alloc,
+            Purpose::Cycle,
+            turned(signature, k).as_slice(),
+            steps,
+        )?;
         first = lesser(first, walk);
     }
     Ok(first)
