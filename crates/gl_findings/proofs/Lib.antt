@@ -6,8 +6,11 @@ pub mod Compared
 pub mod Cutting
 pub mod Dealt
 pub mod FirstPlaces
+pub mod FirstsAdded
+pub mod InOrder
 pub mod LeastTurns
 pub mod ListingsAgree
+pub mod ListsAscend
 pub mod ModelSteps
 pub mod Modelled
 pub mod NextFlagged

@@ -20,7 +20,7 @@ use Rattle.gl_cycles.proofs.AmongAllCycles.{filter_has, filter_from, there_is_cy
 use Rattle.gl_findings.specs.Findings.{same_places, class_of, classes_of, signature_of, turned, is_turn, begins_least, first_with, findings}
 use Rattle.gl_findings.specs.Laws.{IsToldBy, AreOneFinding, NoneIsMissed, EachIsCycle, NoneIsTwice}
 use Rattle.gl_findings.proofs.Cutting.{classes_told, All-left, All-right}
-use Rattle.gl_findings.proofs.LeastTurns.{turn_tells, turn_from, turn_and_back, told, told_once, length-turned}
+use Rattle.gl_findings.proofs.LeastTurns.{IsTurnOf, turn_tells, turn_from, turn_and_back, told, told_once, length-turned}
 
 -- the first of some
 first_of : {X : Type 0} (xs : List X) (x : X) → Contains xs x → (y : X) × Contains (take 1 xs) y × Contains xs y
@@ -164,18 +164,30 @@ module _ (before : Segment → Segment → Bool) (mode : Mode) (len : ℕ) (tabl
     turn = (filter_from (λ positions. is_turn signature (signature_of table positions)) shown (all_cycles before mode len (edges_of_table table)) (of_first _ shown there)).1;
   }
 
+  positions_within : (positions : List ℕ) → Contains (all_cycles before mode len (edges_of_table table)) positions → All (λ i. i < length table) positions
+  positions_within positions at k d below =
+      let edges_long = length-map table (λ pair. pair.0) in
+      let w = (there_is_cycle before mode len (edges_of_table table) positions at).within k d below in
+      omega (arith, w, edges_long)
+
+  -- a turn of a cycle's signature is among the lists
+  pub signature_among : (positions signature : List ℕ) → Contains (all_cycles before mode len (edges_of_table table)) positions → IsTurnOf (signature_of table positions) signature → Contains (lists_below (length table) len) signature
+  signature_among positions signature at turn =
+      let is = there_is_cycle before mode len (edges_of_table table) positions at in
+      let long = length-signature table positions (positions_within positions at) in
+      let as_many = length-picked (edges_of_table table) positions is.within in
+      let same_length : length signature ≡ length (signature_of table positions) = ap length (sym turn.2) ∙ length-turned turn.0 (signature_of table positions) in
+      let below = subst (All (λ i. i < length table)) turn.2 (turned_below (length table) turn.0 (signature_of table positions) (signature_below table positions)) in
+      listed (length table) len signature (omega (arith, same_length, long, as_many, is.cycle.not_too_long)) below
+
   pub none_is_missed : NoneIsMissed before mode len table
   unfolding findings
   none_is_missed positions at =
       let is = there_is_cycle before mode len (edges_of_table table) positions at in
-      let edges_long = length-map table (λ pair. pair.0) in
-      let within : All (λ i. i < length table) positions = λ k d below. let w = is.within k d below in omega (arith, w, edges_long) in
-      let long = length-signature table positions within in
+      let long = length-signature table positions (positions_within positions at) in
       let as_many = length-picked (edges_of_table table) positions is.within in
       let (signature, begins, turn) = told (signature_of table positions) (omega (arith, long, as_many, is.cycle.two_or_more)) in
-      let same_length : length signature ≡ length (signature_of table positions) = ap length (sym turn.2) ∙ length-turned turn.0 (signature_of table positions) in
-      let below = subst (All (λ i. i < length table)) turn.2 (turned_below (length table) turn.0 (signature_of table positions) (signature_below table positions)) in
-      let among = listed (length table) len signature (omega (arith, same_length, long, as_many, is.cycle.not_too_long)) below in
+      let among = signature_among positions signature at turn in
       let (k, k_below, back) = turn_and_back (signature_of table positions) signature turn in
       let passes = turn_from signature (signature_of table positions) k k_below back in
       let (shown, first, there) = first_of (filter (λ l. is_turn signature (signature_of table l)) (all_cycles before mode len (edges_of_table table))) positions

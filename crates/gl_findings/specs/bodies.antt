@@ -3,6 +3,7 @@ pub mod Classing
 pub mod Finding
 pub mod Growing
 pub mod Grounds
+pub mod Grouping
 pub mod Lesser
 pub mod Passing
 pub mod Running

@@ -13,6 +13,7 @@ mod classes;
 mod counts;
 mod finder;
 mod grounds;
+mod grouped;
 mod laws;
 mod listing;
 mod models;

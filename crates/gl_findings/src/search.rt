@@ -10,6 +10,7 @@ ghost use Rattle.gl_findings.specs.bodies.Told.{AreGrounds};
 
 use crate::finder::Finder;
 use crate::grounds::Grounds;
+use crate::grouped::{findings_of_cycles, findings_of_cycles_parallel};
 use crate::parallel::first_findings;
 use gl_cycles::{Found, edges_sought, edges_sought_parallel, first_steps, search, search_parallel};
 use gl_edges::EdgeList;
@@ -220,6 +221,9 @@ fn found_by(alloc: Global, edges: &EdgeList, order: &Order, query: &Query) -> Re
     if let Some(found) = none_found(alloc, edges, order, query)? {
         return Ok(found);
     }
+    if let Some(found) = findings_of_cycles(alloc, edges, order, query)? {
+        return Ok(found);
+    }
     if let Some(found) = found_later(alloc, edges, order, query, &grounds, count)? {
         return Ok(found);
     }
@@ -247,6 +251,9 @@ fn found_by_parallel(
     if let Some(found) = none_found_parallel(rt, alloc, edges, order, query)? {
         return Ok(found);
     }
+    if let Some(found) = findings_of_cycles_parallel(rt, alloc, edges, order, query)? {
+        return Ok(found);
+    }
     if let Some(found) = found_later(alloc, edges, order, query, &grounds, count)? {
         return Ok(found);
     }
@@ -265,8 +272,9 @@ fn found_by_parallel(
 /// places on.
 ///
 /// A search among the edges that [are kept at first](Sought::kept_at_first) comes first, with a few steps for
-/// each edge. Where these don't suffice, a cycle is looked for: without one there are no findings. Else it begins again
-/// with more steps, where it found some share of what is asked for; and where these don't suffice either, what can be seen to be in no cycle is left out, and it begins once more.
+/// each edge. Where these don't suffice, a cycle is looked for: without one there are no findings. Else up to some ten thousand
+/// cycles are listed: where these are all, findings are told from them. Else the search begins again with more steps, where it found some
+/// share of what is asked for; and where these don't suffice either, what can be seen to be in no cycle is left out, and it begins once more.
 ///
 /// There may be as many signatures as classes to the power of the greatest length of a cycle: the query's, or
 /// [how many edges a cycle can have](Sought::shortened), where that is less. Threads that run the same code add none.
