@@ -19,7 +19,7 @@ use Rattle.gl_pruning.specs.declared.epochs.Group.{Group}
 
 module _ (before : Segment → Segment → Bool) (mode : Mode) (e f : Edge) where
   -- two edges of one thread don't go with each other
-  apart_in_thread : e.thread ≡ f.thread → goes_with before mode e f ≡ false
+  pub apart_in_thread : e.thread ≡ f.thread → goes_with before mode e f ≡ false
   unfolding goes_with
   apart_in_thread same = false_from_ne_true _ (λ goes.
       let parts = and_parts (not (eqb e.held f.held) && not (eqb e.thread f.thread)) _ goes in

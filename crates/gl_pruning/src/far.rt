@@ -16,8 +16,8 @@ use crate::sought::Sought;
 use crate::ways::Ways;
 use gl_event::Memory;
 
-// Whether the label grows by as much as this or more, from the lock that an edge wants to the one that it holds.
-fn is_far(ends: &[Ends], labels: &[usize], x: usize, len: usize) -> bool
+/// Whether the label grows by as much as this or more, from the lock that an edge wants to the one that it holds.
+pub(crate) fn is_far(ends: &[Ends], labels: &[usize], x: usize, len: usize) -> bool
     requires { x < length ends.now }
     ensures { IsTrue result → (d : Ends) → slice_get ends.now x ≡ Some d
         → label_at labels.now d.wanted + len ≤ label_at labels.now d.held }

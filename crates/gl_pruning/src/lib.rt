@@ -42,6 +42,7 @@ mod reasons;
 mod rests;
 mod rounds;
 mod sought;
+mod through;
 mod turns;
 mod ways;
 

@@ -6,7 +6,7 @@
 use crate::numbers::Ends;
 use crate::sought::Sought;
 use gl_edges::Edge;
-use gl_event::Memory;
+use gl_event::{Memory, ThreadId};
 use gl_filters::goes_with;
 use std::alloc::Global;
 
@@ -114,6 +114,58 @@ impl Ways {
             self.reach_from(far, lock, distance)?;
         }
         Ok(true)
+    }
+
+    /// The same, but by edges of other threads than this one.
+    pub(crate) fn label_without(
+        &mut self,
+        sought: &Sought<'_>,
+        thread: ThreadId,
+        lock: usize,
+        budget: &mut usize,
+    ) -> Result<bool, Memory> {
+        if *budget == 0 || self.is_wanted.get(lock) != Some(&true) {
+            return Ok(false);
+        }
+        *budget = budget.saturating_sub(self.links.len() / LOOKS + 1);
+        self.forget(sought.len);
+        self.reach(lock, 0)?;
+        for turn in 0..self.labels.len() {
+            let Some(&lock) = self.reached.get(turn) else {
+                break;
+            };
+            let distance = self.label(lock).saturating_add(1);
+            if distance >= sought.len {
+                break;
+            }
+            self.reach_without(sought, thread, lock, distance)?;
+        }
+        Ok(true)
+    }
+
+    // Comes to each lock that is one edge of another thread on from this one.
+    fn reach_without(
+        &mut self,
+        sought: &Sought<'_>,
+        thread: ThreadId,
+        lock: usize,
+        distance: usize,
+    ) -> Result<(), Memory> {
+        let Some(first) = self.first.get(lock).copied().flatten() else {
+            return Ok(());
+        };
+        for i in first..self.links.len() {
+            let Some(&link) = self.links.get(i) else {
+                break;
+            };
+            if link.held != lock {
+                break;
+            }
+            if self.label(link.wanted) >= sought.len && is_of_another(sought, link, thread) {
+                self.reach(link.wanted, distance)?;
+            }
+        }
+        Ok(())
     }
 
     // Comes to each lock that is one edge on from this one.
@@ -237,6 +289,14 @@ fn wanted_by(alloc: Global, links: &[Link], locks: usize) -> Result<Vec<bool>, M
         }
     }
     Ok(is_wanted)
+}
+
+// Whether the link's edge is of another thread than this one.
+fn is_of_another(sought: &Sought<'_>, link: Link, thread: ThreadId) -> bool {
+    match sought.table.get(link.position) {
+        Some((edge, _)) => edge.thread != thread,
+        None => true,
+    }
 }
 
 // Whether the link's edge is kept and goes with this one.

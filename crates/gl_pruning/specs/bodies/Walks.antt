@@ -1,5 +1,5 @@
 -- Ways back: walks from the lock that an edge wants to the lock that it holds, and labels of locks, which show that there is none.
-use Rattle.std.specs.Prelude.{◌≡◌, ℕ, ◌+◌, ◌≤◌, Bool, true, List, map, slice_get, Some, unwrap_or}
+use Rattle.std.specs.Prelude.{◌≡◌, ◌≢◌, ℕ, ◌+◌, ◌≤◌, Bool, true, List, map, slice_get, Some, unwrap_or}
 use Rattle.gl_event.specs.declared.events.Segment.{Segment}
 use Rattle.gl_edges.specs.declared.edge.Edge.{Edge}
 use Rattle.gl_filters.specs.declared.query.Mode.{Mode}
@@ -26,6 +26,13 @@ label_at labels n = unwrap_or (slice_get labels n) 0
 abbrev pub GrowByOne : List Bool → List Ends → List ℕ → Type 0
 GrowByOne kept ends labels =
     (i : ℕ) (d : Ends) → slice_get kept i ≡ Some true → slice_get ends i ≡ Some d
+    → label_at labels d.wanted ≤ label_at labels d.held + 1
+
+-- so it does along each edge of another thread than this one
+abbrev pub GrowWithout : ℕ → List Edge → List Bool → List Ends → List ℕ → Type 0
+GrowWithout thread edges kept ends labels =
+    (i : ℕ) (e : Edge) (d : Ends) → slice_get kept i ≡ Some true → slice_get edges i ≡ Some e
+    → slice_get ends i ≡ Some d → e.thread ≢ thread
     → label_at labels d.wanted ≤ label_at labels d.held + 1
 
 -- a certificate: along each edge that is kept and goes with the one at x the label of a lock grows by one at the most, and from the
