@@ -29,7 +29,7 @@ use std::marker::Model;
 use std::thread::Threads;
 
 // How many cycles are looked at, at most.
-const MANY: u32 = 32_768;
+const MANY: u32 = 16_384;
 
 // A signature by which cycles are grouped. Contracts see the list of its classes.
 #[derive(Drop)]
