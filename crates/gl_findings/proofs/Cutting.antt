@@ -22,7 +22,7 @@ use Rattle.gl_cycles.proofs.BelowFronts.{picked-append}
 use Rattle.gl_index.proofs.Lists.{element_at}
 use Rattle.gl_cycles.proofs.CyclesAreLevel.{picked_among}
 use Rattle.gl_cycles.proofs.AmongAllCycles.{there_is_cycle}
-use Rattle.gl_walks.specs.declared.purpose.Purpose.TheVariants.{Front, Round, Ring}
+use Rattle.gl_walks.specs.declared.purpose.Purpose.TheVariants.{Front, Round, Turned}
 use Rattle.gl_walks.specs.Walks.{is_front, is_chain, IsWalk, NoWalk}
 use Rattle.gl_findings.specs.Findings.{class_of, classes_of, signature_of, turned, is_turn, first_with}
 use Rattle.gl_findings.specs.bodies.Grounds.{AreModels}
@@ -95,7 +95,7 @@ pub record IsModelRound (mode : Mode) (edges : List Edge) (classes : List ℕ) (
 pub record IsRingWith (before : Segment → Segment → Bool) (mode : Mode) (edges : List Edge) (classes : List ℕ) (kept models : List Bool) (signature : List ℕ) : Type 0 where
   pub model : IsModelRound mode edges classes models signature
   pub positions : List ℕ
-  pub ring : IsWalk Ring before mode edges classes kept signature positions
+  pub ring : IsWalk Turned before mode edges classes kept signature positions
   pub alike : AllAlike (picked edges model.places) (picked edges positions)
 
 -- they begin with a walk among the models with the classes of a front that the signature begins with

@@ -15,7 +15,7 @@ use Rattle.gl_index.proofs.Lists.{element_at}
 use Rattle.gl_segments.specs.Clocks.{is_before}
 use Rattle.gl_walks.specs.declared.purpose.Purpose.{Purpose}
 use Rattle.gl_walks.specs.declared.walker.Walker.{Walker}
-use Rattle.gl_walks.specs.declared.purpose.Purpose.TheVariants.{Front, Round, Ring}
+use Rattle.gl_walks.specs.declared.purpose.Purpose.TheVariants.{Front, Round, Turned}
 use Rattle.gl_walks.specs.Walks.{is_front, kinds_together, NoWalk, HasWalkFrom}
 use Rattle.gl_findings.specs.Findings.{begins_least, classes_of}
 use Rattle.gl_findings.specs.bodies.Finding.{IsReady, HasSpans, block_of, finding_of}
@@ -244,7 +244,7 @@ module _ (s : Finder) (ready : IsReady s) where
 
   -- nor has one of which no ring begins where a chain does
   pub none_ringed : (signature : List ℕ) → 0 < length signature
-      → ((i j : ℕ) (e f : Edge) → ChainOf signature i j e f → leads_to f e ≡ true → ¬ HasWalkFrom Ring (is_before s.order.now) s.mode (edges_of_table s.table.now) (classes_of s.table.now) s.among_kept.ground.flags.now signature e.held) → finding_of s signature ≡ []
+      → ((i j : ℕ) (e f : Edge) → ChainOf signature i j e f → leads_to f e ≡ true → ¬ HasWalkFrom Turned (is_before s.order.now) s.mode (edges_of_table s.table.now) (classes_of s.table.now) s.among_kept.ground.flags.now signature e.held) → finding_of s signature ≡ []
   none_ringed signature some none =
       where_least (begins_least signature)
       (none_goes_ring (is_before s.order.now) s.mode s.len s.table.now s.among_kept.ground.flags.now s.among_models.ground.flags.now ready.kept ready.models signature
@@ -254,12 +254,12 @@ module _ (s : Finder) (ready : IsReady s) where
       let one = first_alike (picked edges is.model.places) (picked edges is.positions) has.begins is.alike has.at_first in
       none has.first has.last has.begins has.ends has.chain (has.back is.model.round) (record { positions = is.positions; walk = is.ring; first = one.0; begins = one.1; holds = sym one.2 })))
 
-  pub none_rung : (signature : List ℕ) (spans : Spans) → 0 < length signature → HasSpans s signature spans → spans.are_all ≡ true → NoneBegins s.among_kept Ring signature spans → finding_of s signature ≡ []
+  pub none_rung : (signature : List ℕ) (spans : Spans) → 0 < length signature → HasSpans s signature spans → spans.are_all ≡ true → NoneBegins s.among_kept Turned signature spans → finding_of s signature ≡ []
   none_rung signature spans some have all none =
       none_ringed signature some
       (λ i j e f chain leads.
       let has = have.each all i j e f chain (λ is. leads) in
-      among_kept Ring signature e.held (none (span_of i j e f has.0) has.1 (λ other. leads)))
+      among_kept Turned signature e.held (none (span_of i j e f has.0) has.1 (λ other. leads)))
 
   -- none begins where no chain is due
   none_due : (signature : List ℕ) → 0 < length signature → length signature ≤ s.len → ((i j : ℕ) (e f : Edge) → ChainOf signature i j e f → IsDue s.len signature e f → ⊥) → block_of s (s.len - length signature) signature ≡ []

@@ -15,7 +15,8 @@ use Rattle.gl_filters.specs.Test.{leads_to, lead_on, goes_with, kinds_go_togethe
 use Rattle.gl_filters.specs.Verdicts.{following}
 use Rattle.gl_filters.proofs.Cycling.{leads_from}
 use Rattle.gl_filters.proofs.Round.{pair_goes, pair_goes_by_kind, leads_round}
-use Rattle.gl_walks.specs.Walks.{together, kinds_together, is_front, is_chain}
+use Rattle.gl_walks.proofs.Passing.{together, edges_together, all_kinds_together}
+use Rattle.gl_walks.specs.Walks.{kinds_together, is_front, is_chain}
 
 -- what stands in the second of two lists stands that many places later in both
 pub get_behind : {X : Type 0} (xs ys : List X) (k : ℕ) → slice_get (xs ++ ys) (length xs + k) ≡ slice_get ys k
@@ -108,7 +109,7 @@ pub turned_front : (before : Segment → Segment → Bool) (mode : Mode) (len : 
 unfolding is_front
 turned_front before mode len xs ys cycle =
     and_from (lead_on (ys ++ xs)) _ (turned_led before mode len xs ys cycle)
-    (together_from (kinds_go_together mode) (ys ++ xs) (λ i j e f lower at_e at_f.
+    (sym (all_kinds_together mode (ys ++ xs)) ∙ together_from (kinds_go_together mode) (ys ++ xs) (λ i j e f lower at_e at_f.
     let a = home xs ys i e at_e in
     let b = home xs ys j f at_f in
     pair_goes_by_kind before mode len (xs ++ ys) cycle a.place b.place e f (homes_differ xs ys i j e f lower a b) a.stands b.stands))
@@ -118,7 +119,7 @@ pub turned_chain : (before : Segment → Segment → Bool) (mode : Mode) (len : 
 unfolding is_chain
 turned_chain before mode len xs ys cycle =
     and_from (lead_on (ys ++ xs)) _ (turned_led before mode len xs ys cycle)
-    (together_from (goes_with before mode) (ys ++ xs) (λ i j e f lower at_e at_f.
+    (sym (edges_together before mode (ys ++ xs)) ∙ together_from (goes_with before mode) (ys ++ xs) (λ i j e f lower at_e at_f.
     let a = home xs ys i e at_e in
     let b = home xs ys j f at_f in
     pair_goes before mode len (xs ++ ys) cycle a.place b.place e f (homes_differ xs ys i j e f lower a b) a.stands b.stands))

@@ -410,7 +410,7 @@ impl Finder<'_> {
         let goes = has_walk(
             alloc,
             &self.among_kept,
-            Purpose::Ring,
+            Purpose::Turned,
             signature,
             spans,
             steps,

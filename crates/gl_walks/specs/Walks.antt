@@ -7,18 +7,14 @@ use Rattle.gl_event.specs.declared.events.Segment.{Segment}
 use Rattle.gl_edges.specs.declared.edge.Edge.{Edge}
 use Rattle.gl_filters.specs.declared.query.Mode.{Mode}
 use Rattle.gl_filters.specs.Picked.{picked}
-use Rattle.gl_filters.specs.Test.{lead_on, leads_back, goes_with, kinds_go_together, is_cycle}
+use Rattle.gl_filters.specs.Test.{lead_on, leads_back, go_together, kinds_go_together, is_cycle}
 use Rattle.gl_walks.specs.declared.purpose.Purpose.{Purpose}
-use Rattle.gl_walks.specs.declared.purpose.Purpose.TheVariants.{Cycle, Front, Round, Ring}
+use Rattle.gl_walks.specs.declared.purpose.Purpose.TheVariants.{Cycle, Front, Round, Turned}
 
--- each edge goes with each later one
-abbrev pub together : (Edge → Edge → Bool) → List Edge → Bool
-together goes [] = true
-together goes (e ∷ es) = list_all (goes e) es && together goes es
-
--- so do their kinds
+-- the kind of each edge goes with that of each later one
 abbrev pub kinds_together : Mode → List Edge → Bool
-kinds_together mode = together (kinds_go_together mode)
+kinds_together mode [] = true
+kinds_together mode (e ∷ es) = list_all (kinds_go_together mode e) es && kinds_together mode es
 
 -- the edges may stand one behind the other in a round, as far as their kinds tell
 unfoldable pub is_front : Mode → List Edge → Bool
@@ -26,14 +22,14 @@ is_front mode es = lead_on es && kinds_together mode es
 
 -- the edges may stand one behind the other in a cycle, as far as each two of them tell
 unfoldable pub is_chain : (Segment → Segment → Bool) → Mode → List Edge → Bool
-is_chain before mode es = lead_on es && together (goes_with before mode) es
+is_chain before mode es = lead_on es && go_together before mode es
 
 -- what a walk's edges have to be
 abbrev pub fits : Purpose → (Segment → Segment → Bool) → Mode → List Edge → Bool
 fits Cycle before mode es = is_cycle before mode es
 fits Front before mode es = is_front mode es
 fits Round before mode es = is_front mode es && leads_back es
-fits Ring before mode es = is_chain before mode es && leads_back es
+fits Turned before mode es = is_chain before mode es && leads_back es
 
 -- a walk through flagged edges, the first of the first class of the pattern, and so on to its last
 pub record IsWalk (purpose : Purpose) (before : Segment → Segment → Bool) (mode : Mode)

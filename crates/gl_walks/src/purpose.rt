@@ -10,6 +10,6 @@ pub enum Purpose {
     Front,
     /// A whole round of such a front: its last edge leads back to its first.
     Round,
-    /// A round of which each two edges may stand in a cycle of the mode: one that begins with any of its edges.
-    Ring,
+    /// A cycle of the mode, told from any of its edges.
+    Turned,
 }

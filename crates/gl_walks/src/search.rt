@@ -58,7 +58,7 @@ fn stays_above(purpose: Purpose, first: &Edge, edge: &Edge) -> bool
 {
     match purpose {
         Purpose::Cycle => first.thread.number() <= edge.thread.number(),
-        Purpose::Front | Purpose::Round | Purpose::Ring => true,
+        Purpose::Front | Purpose::Round | Purpose::Turned => true,
     }
 }
 
@@ -69,7 +69,7 @@ impl Search<'_> {
             self.now.area.mode e.now f.now }
     {
         match purpose {
-            Purpose::Cycle | Purpose::Ring => goes_with(self.area.mode, self.area.order, e, f),
+            Purpose::Cycle | Purpose::Turned => goes_with(self.area.mode, self.area.order, e, f),
             Purpose::Front | Purpose::Round => kinds_go_together(self.area.mode, e, f),
         }
     }
@@ -142,7 +142,7 @@ impl Search<'_> {
                 self.is_closed(path)
             }
             Purpose::Front => true,
-            Purpose::Round | Purpose::Ring => self.is_closed(path),
+            Purpose::Round | Purpose::Turned => self.is_closed(path),
         }
     }
 
@@ -171,7 +171,7 @@ impl Search<'_> {
     {
         match purpose {
             Purpose::Front => true,
-            Purpose::Cycle | Purpose::Round | Purpose::Ring => self.leads_round(path, next),
+            Purpose::Cycle | Purpose::Round | Purpose::Turned => self.leads_round(path, next),
         }
     }
 

@@ -13,7 +13,7 @@ use Rattle.gl_walks.specs.declared.chains.Chain.{Chain}
 use Rattle.gl_walks.specs.declared.keys.Keyed.{Keyed}
 use Rattle.gl_walks.specs.declared.keys.Keyed.TheVariants.{ByClass, ByLock}
 use Rattle.gl_walks.specs.declared.purpose.Purpose.{Purpose}
-use Rattle.gl_walks.specs.declared.purpose.Purpose.TheVariants.{Cycle, Front, Round, Ring}
+use Rattle.gl_walks.specs.declared.purpose.Purpose.TheVariants.{Cycle, Front, Round, Turned}
 use Rattle.gl_walks.specs.declared.ground.Ground.{Ground}
 use Rattle.gl_walks.specs.Walks.{is_front, is_chain, IsWalk, HasWalkFrom}
 use Rattle.gl_walks.specs.bodies.Listing.{Key, key_at, IsChain}
@@ -23,14 +23,14 @@ abbrev pub goes_by : Purpose → (Segment → Segment → Bool) → Mode → Edg
 goes_by Cycle before mode e f = goes_with before mode e f
 goes_by Front before mode e f = kinds_go_together mode e f
 goes_by Round before mode e f = kinds_go_together mode e f
-goes_by Ring before mode e f = goes_with before mode e f
+goes_by Turned before mode e f = goes_with before mode e f
 
 -- the second edge may stand in a walk that begins with the first
 abbrev pub stays_above : Purpose → Edge → Edge → Bool
 stays_above Cycle e f = nat_le e.thread f.thread
 stays_above Front e f = true
 stays_above Round e f = true
-stays_above Ring e f = true
+stays_above Turned e f = true
 
 -- the edge may come next in a walk
 abbrev pub may_follow : Purpose → (Segment → Segment → Bool) → Mode → List Edge → Edge → Bool
@@ -44,14 +44,14 @@ abbrev pub passes : Purpose → (Segment → Segment → Bool) → Mode → List
 passes Cycle before mode es = is_path before mode es
 passes Front before mode es = is_front mode es
 passes Round before mode es = is_front mode es
-passes Ring before mode es = is_chain before mode es
+passes Turned before mode es = is_chain before mode es
 
 -- they may be all of it
 abbrev pub may_end : Purpose → List Edge → Bool
 may_end Cycle es = nat_le 2 (length es) && leads_back es
 may_end Front es = true
 may_end Round es = leads_back es
-may_end Ring es = leads_back es
+may_end Turned es = leads_back es
 
 -- what is looked for
 pub record Sought : Type 0 where
