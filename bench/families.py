@@ -305,11 +305,45 @@ def gui(draw, threads=30, models=40, sections=40, sections_of_gui=300, gates=3, 
         yield from nested(f"worker{thread}", f"work{section % PIECES}.c", [*outer, *taken])
 
 
+def frames(draw, frames=25, jobs=16, components=40, depth=4, sections=3, is_rendered=True):
+    """A game: the jobs of a frame take components in an order of the frame's own, and are joined before those of the next one
+    are forked; the renderer is there all the time, and takes them by number. So there are many rings of places, of which nearly all
+    would have jobs of different frames."""
+    order = [f"component{number}" for number in range(components)]
+    for frame in range(frames):
+        of_frame = [*order]
+        draw.shuffle(of_frame)
+        threads = [f"job{frame}.{number}" for number in range(jobs)]
+        yield from (f"main|fork({thread})|main.c:5" for thread in threads)
+        for thread, section in itertools.product(threads, range(sections)):
+            yield from nested(thread, f"system{frame % PIECES}.c", in_order(draw, of_frame, depth))
+        for _ in range(sections if is_rendered else 0):
+            yield from nested("renderer", "render.c", ["device", *in_order(draw, order, depth - 1)])
+        yield from (f"main|join({thread})|main.c:6" for thread in threads)
+
+
+def actors(draw, threads=24, actors=150, sections=80, upward=0.03, dispatched=0.1):
+    """Actors in a tree, who hold their state and take a child's mailbox or state, rarely their parent's; and the dispatcher,
+    which is taken last, but by its own code first. There are many ways from class to class, and few rings."""
+    for section, number in itertools.product(range(sections), range(threads)):
+        thread, actor = f"worker{number}", draw.randrange(actors)
+        children = [child for child in range(4 * actor + 1, 4 * actor + 5) if child < actors]
+        if draw.random() < dispatched:
+            taken, code = ["dispatcher", f"mailbox{actor}"], "dispatch"
+        elif actor and draw.random() < upward:
+            taken, code = [f"state{actor}", f"state{(actor - 1) // 4}", "log"], "escalate"
+        elif children and draw.random() < 0.4:
+            taken, code = [f"state{actor}", f"state{draw.choice(children)}", f"mailbox{draw.randrange(actors)}"], "ask"
+        else:
+            taken, code = [f"state{actor}", f"mailbox{draw.randrange(actors)}", "dispatcher"], "tell"
+        yield from nested(thread, f"{code}{section % PIECES}.c", taken)
+
+
 FAMILIES = {
     family.__name__.replace("_", "-"): family
     for family in (
         modules, subsystems, gate_subsets, pool, pipeline, database, hierarchy, turnstile, cohorts, handover, grid,
-        work_stealing, stripes, shards, recursive, back_off, gui,
+        work_stealing, stripes, shards, recursive, back_off, gui, frames, actors,
     )
 }  # fmt: skip
 

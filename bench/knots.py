@@ -181,6 +181,8 @@ SHAPES = {
     "recursive": {"small": [""], "large": ["--sections 200 --gated 1 ask --max 100000"]},
     "back-off": {"small": [""], "large": ["--tried 0.95 --depth 6"]},
     "gui": {"small": [""], "large": ["--gated 1 --gates 1 --inner 0"]},
+    "frames": {"small": [""], "large": ["--no-rendered"]},
+    "actors": {"small": [""], "large": ["--dispatched 0"]},
 }
 
 

@@ -94,6 +94,10 @@ CYCLES_TAKEN_AWAY = [
     ("gui --gated 1 --gates 1 --sections-of-gui 0", "gui --gated 1 --gates 1"),
     # what is tried isn't waited for
     ("back-off --tried 1", "back-off"),
+    # each frame has one order, and is over before the next one
+    ("frames --no-rendered", "frames"),
+    # all take locks down the tree, and the dispatcher last
+    ("actors --dispatched 0 --upward 0", "actors"),
 ]
 
 
