@@ -255,12 +255,14 @@ static void beginning_drop(struct beginning *beginning)
     }
 }
 
-static void beginning_map(struct beginning *beginning, pthread_t handle)
+/* Until the thread itself was here, none of the program's code ran in it: so where the handle is is still there. After
+ * that the thread may have given back that memory. */
+static void beginning_map(struct beginning *beginning, const pthread_t *handle)
 {
     struct slow_state state;
     slow_enter(&state);
     if (!beginning->mapped)
-        thread_map(handle, beginning->record->thread);
+        thread_map(*handle, beginning->record->thread);
     beginning->mapped = 1;
     beginning_drop(beginning);
     slow_leave(&state);
@@ -307,8 +309,9 @@ static void beginning_undo(struct thread *thread, struct beginning *beginning, u
 /* The frames of what the thread runs lie below the one here. */
 static void thread_adopt(struct beginning *beginning, void *frame)
 {
+    pthread_t self = pthread_self();
     own_record = beginning->record;
-    beginning_map(beginning, pthread_self());
+    beginning_map(beginning, &self);
     struct thread *thread = recording_thread();
     if (thread)
         thread->stack_top = (uintptr_t)frame;
@@ -343,7 +346,7 @@ static uint64_t *fork_write(struct thread *thread, struct beginning *beginning, 
 }
 
 /* The thread was made: the fork stays. */
-static void fork_done(struct thread *thread, struct beginning *beginning, pthread_t handle,
+static void fork_done(struct thread *thread, struct beginning *beginning, const pthread_t *handle,
                       const struct segment *before)
 {
     uint32_t outside = change_begin(thread);
@@ -366,7 +369,7 @@ EXPORTED int pthread_create(pthread_t *handle, const pthread_attr_t *attributes,
     uint64_t *place = fork_write(thread, beginning, site, &before);
     int result = real.pthread_create(handle, attributes, thread_begin, beginning);
     if (result == 0)
-        fork_done(thread, beginning, *handle, &before);
+        fork_done(thread, beginning, handle, &before);
     else
         beginning_undo(thread, beginning, place, &before);
     return result;
@@ -384,7 +387,7 @@ EXPORTED int thrd_create(thrd_t *handle, thrd_start_t routine, void *argument)
     uint64_t *place = fork_write(thread, beginning, site, &before);
     int result = real.thrd_create(handle, thread_begin_c11, beginning);
     if (result == thrd_success)
-        fork_done(thread, beginning, (pthread_t)*handle, &before);
+        fork_done(thread, beginning, handle, &before);
     else
         beginning_undo(thread, beginning, place, &before);
     return result;

@@ -111,6 +111,36 @@ static void stacks(void)
     }
 }
 
+struct job {
+    pthread_t handle;
+    char room[1 << 18];
+};
+
+static int jobs_done;
+
+static void *gives_job_back(void *job)
+{
+    munmap(job, sizeof(struct job));
+    __atomic_fetch_add(&jobs_done, 1, __ATOMIC_RELEASE);
+    return NULL;
+}
+
+/* Threads that give back the memory in which their handles are, as soon as they run. */
+static void handles(void)
+{
+    pthread_attr_t detached;
+    pthread_attr_init(&detached);
+    pthread_attr_setdetachstate(&detached, PTHREAD_CREATE_DETACHED);
+    for (int i = 0; i < 1000; i++) {
+        struct job *job = mmap(NULL, sizeof *job, PROT_READ | PROT_WRITE, MAP_PRIVATE | MAP_ANONYMOUS, -1, 0);
+        MUST(pthread_create(&job->handle, &detached, gives_job_back, job) == 0);
+        while (__atomic_load_n(&jobs_done, __ATOMIC_ACQUIRE) < i - 4)
+            usleep(100);
+    }
+    while (__atomic_load_n(&jobs_done, __ATOMIC_ACQUIRE) < 1000)
+        usleep(100);
+}
+
 /* Two libraries, one after the other at the same place. */
 static void plugins(void)
 {
@@ -132,7 +162,8 @@ int main(int count, char **arguments)
     static const struct {
         const char *name;
         void (*run)(void);
-    } programs[] = {{"freed", freed}, {"moved", moved}, {"unmapped", unmapped}, {"stacks", stacks}, {"plugins", plugins}};
+    } programs[] = {{"freed", freed},   {"moved", moved},     {"unmapped", unmapped},
+                    {"stacks", stacks}, {"plugins", plugins}, {"handles", handles}};
     for (size_t i = 0; count > 1 && i < sizeof programs / sizeof programs[0]; i++)
         if (strcmp(programs[i].name, arguments[1]) == 0) {
             programs[i].run();

@@ -1,6 +1,6 @@
 """Memory that is given back: a lock in it is at its end, and the next one there is another."""
 
-from c_traces import expect
+from c_traces import expect, record
 
 
 def test_lock_in_freed_memory_is_at_its_end():
@@ -40,6 +40,12 @@ def test_lock_on_the_stack_of_a_thread_that_ended():
         text.append("main.%d:uses_stack|acq(mutex@@stack#main.%d:1)|@stack" % (i, i))
         text.append("main.%d:uses_stack|rel(mutex@@stack#main.%d:1)|@stack_end" % (i, i))
     expect("stacks", "\n".join(text), "memory.c")
+
+
+def test_thread_that_gives_its_handle_back():
+    """The memory may be gone before the call that made the thread has come back."""
+    run = record("./memory", "handles")
+    assert run.status == 0 and "1001 threads" in run.said, "status %d: %s" % (run.status, run.said)
 
 
 def test_library_in_the_place_of_another():
