@@ -79,7 +79,9 @@ void memory_note(struct thread *thread, uintptr_t address)
     if (found)
         __atomic_fetch_or(&found->places[place / 64], 1ull << place % 64, __ATOMIC_RELEASE);
     uintptr_t here = (uintptr_t)__builtin_frame_address(0);
-    if (address > here && address < thread->stack_top && (thread->stack_low == 0 || address < thread->stack_low))
+    int is_first = thread->number == 0; /* whose stack stays */
+    if (!is_first && address > here && address - here < stack_above(thread, here) &&
+        (thread->stack_low == 0 || address < thread->stack_low))
         thread->stack_low = address;
 }
 

@@ -191,7 +191,8 @@ struct thread {
     uint32_t number;
     uint32_t exit_rounds;
     uint32_t holds;                 /* how often it was held back in vain (confirm.c) */
-    uintptr_t stack_top, stack_low; /* where its stack begins, and the lowest lock in it; 0: not known, none */
+    uintptr_t stack_from, stack_to; /* its own stack lies between these, with its thread-locals; 0, 0: not known */
+    uintptr_t stack_low;            /* the lowest lock in there that is to end with the thread; 0: none */
     struct thread *next_free;
     uint64_t sink; /* takes what there is no room for */
     struct held held[HELD_LIMIT];
@@ -200,6 +201,13 @@ struct thread {
     struct known_call known_calls[1 << KNOWN_CALL_BITS];
     uint64_t first_keys[KEYS_FIRST];
 };
+
+/* How much of the thread's own stack lies above this place in it. Of a place elsewhere none, as on a stack that the
+ * program made for a coroutine or for signals: nobody knows where that ends. */
+static inline uint64_t stack_above(const struct thread *thread, uintptr_t place)
+{
+    return place >= thread->stack_from && place < thread->stack_to ? thread->stack_to - place : 0;
+}
 
 /* Stands for a thread that isn't ready, or is in a slow part: it has no chunk. */
 extern struct thread thread_none;

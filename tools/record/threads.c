@@ -169,7 +169,7 @@ static void thread_exit(void *value)
         return;
     }
     if (thread->stack_low)
-        memory_end_inside(thread->stack_low, thread->stack_top);
+        memory_end_inside(thread->stack_low, thread->stack_to);
     if (thread->keys != thread->first_keys)
         pages_drop(thread->keys, sizeof *thread->keys * (thread->key_mask + 1));
     thread->next_free = process.free_threads;
@@ -221,6 +221,7 @@ struct beginning {
     void *(*routine)(void *);
     thrd_start_t c11_routine;
     void *argument;
+    size_t stack_bytes;
     struct thread_record *record;
     int mapped;
     int users;
@@ -306,15 +307,38 @@ static void beginning_undo(struct thread *thread, struct beginning *beginning, u
     count_other(thread);
 }
 
-/* The frames of what the thread runs lie below the one here. */
+/* How much stack a thread has that is made so. */
+static size_t stack_bytes_of(const pthread_attr_t *attributes)
+{
+    pthread_attr_t usual;
+    size_t bytes = 0;
+    if (attributes) {
+        pthread_attr_getstacksize(attributes, &bytes);
+    } else if (pthread_attr_init(&usual) == 0) {
+        pthread_attr_getstacksize(&usual, &bytes);
+        pthread_attr_destroy(&usual);
+    }
+    return bytes;
+}
+
+/* The frames of what the thread runs lie below the one here. Its thread-locals lie above that, and below what its
+ * handle is the address of (of other machines than x86-64 that isn't so). */
 static void thread_adopt(struct beginning *beginning, void *frame)
 {
     pthread_t self = pthread_self();
+    size_t stack_bytes = beginning->stack_bytes;
     own_record = beginning->record;
     beginning_map(beginning, &self);
     struct thread *thread = recording_thread();
-    if (thread)
-        thread->stack_top = (uintptr_t)frame;
+    if (!thread)
+        return;
+#ifdef __x86_64__
+    thread->stack_to = (uintptr_t)self;
+#else
+    thread->stack_to = (uintptr_t)frame;
+#endif
+    thread->stack_from = thread->stack_to > stack_bytes ? thread->stack_to - stack_bytes : 0;
+    (void)frame;
 }
 
 static void *thread_begin(void *value)
@@ -365,6 +389,7 @@ EXPORTED int pthread_create(pthread_t *handle, const pthread_attr_t *attributes,
     if (!beginning)
         return real.pthread_create(handle, attributes, routine, argument);
     beginning->routine = routine;
+    beginning->stack_bytes = stack_bytes_of(attributes);
     struct segment before;
     uint64_t *place = fork_write(thread, beginning, site, &before);
     int result = real.pthread_create(handle, attributes, thread_begin, beginning);
@@ -383,6 +408,7 @@ EXPORTED int thrd_create(thrd_t *handle, thrd_start_t routine, void *argument)
     if (!beginning)
         return real.thrd_create(handle, routine, argument);
     beginning->c11_routine = routine;
+    beginning->stack_bytes = stack_bytes_of(NULL);
     struct segment before;
     uint64_t *place = fork_write(thread, beginning, site, &before);
     int result = real.thrd_create(handle, thread_begin_c11, beginning);

@@ -8,6 +8,7 @@
 #include <stdlib.h>
 #include <string.h>
 #include <sys/mman.h>
+#include <ucontext.h>
 #include <unistd.h>
 
 #define MUST(condition)                                                         \
@@ -111,6 +112,60 @@ static void stacks(void)
     }
 }
 
+static __thread pthread_mutex_t own_lock = PTHREAD_MUTEX_INITIALIZER;
+static uintptr_t own_place;
+
+static void *uses_own(void *unused)
+{
+    MUST(own_place == 0 || own_place == (uintptr_t)&own_lock);
+    own_place = (uintptr_t)&own_lock;
+    pthread_mutex_lock(&own_lock);   /* @own */
+    pthread_mutex_unlock(&own_lock); /* @own_end */
+    return unused;
+}
+
+/* The second thread's thread-local lock lies where the first one's was. */
+static void owns(void)
+{
+    for (int i = 0; i < 2; i++) {
+        pthread_t thread;
+        pthread_create(&thread, NULL, uses_own, NULL); /* @own_fork */
+        pthread_join(thread, NULL);                    /* @own_join */
+    }
+}
+
+static char *other_stack;
+static struct node *above;
+static ucontext_t thread_context, other_context;
+
+static void uses_above(void)
+{
+    use(&above->lock);
+}
+
+static void *goes_elsewhere(void *unused)
+{
+    getcontext(&other_context);
+    other_context.uc_stack.ss_sp = other_stack;
+    other_context.uc_stack.ss_size = 1 << 16;
+    other_context.uc_link = &thread_context;
+    makecontext(&other_context, uses_above, 0);
+    swapcontext(&thread_context, &other_context);
+    return unused;
+}
+
+/* A thread that runs on a stack from the heap comes upon a lock that lies above: this is on no stack, and stays. */
+static void elsewhere(void)
+{
+    other_stack = malloc(1 << 16);
+    above = calloc(1, sizeof *above);
+    MUST((uintptr_t)above > (uintptr_t)other_stack);
+    pthread_t thread;
+    pthread_create(&thread, NULL, goes_elsewhere, NULL); /* @elsewhere_fork */
+    pthread_join(thread, NULL);                          /* @elsewhere_join */
+    use(&above->lock);
+}
+
 struct job {
     pthread_t handle;
     char room[1 << 18];
@@ -162,8 +217,8 @@ int main(int count, char **arguments)
     static const struct {
         const char *name;
         void (*run)(void);
-    } programs[] = {{"freed", freed},   {"moved", moved},     {"unmapped", unmapped},
-                    {"stacks", stacks}, {"plugins", plugins}, {"handles", handles}};
+    } programs[] = {{"freed", freed},       {"moved", moved},         {"unmapped", unmapped}, {"stacks", stacks},
+                    {"plugins", plugins},   {"owns", owns},           {"elsewhere", elsewhere}, {"handles", handles}};
     for (size_t i = 0; count > 1 && i < sizeof programs / sizeof programs[0]; i++)
         if (strcmp(programs[i].name, arguments[1]) == 0) {
             programs[i].run();

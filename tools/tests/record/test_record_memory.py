@@ -42,6 +42,20 @@ def test_lock_on_the_stack_of_a_thread_that_ended():
     expect("stacks", "\n".join(text), "memory.c")
 
 
+def test_thread_local_lock_of_a_thread_that_ended():
+    text = ["main|fork(main.%d:uses_own)|@own_fork\nmain|join(main.%d:uses_own)|@own_join" % (i, i) for i in (1, 2)]
+    for i in (1, 2):
+        text.append("main.%d:uses_own|acq(mutex@@own#main.%d:1)|@own" % (i, i))
+        text.append("main.%d:uses_own|rel(mutex@@own#main.%d:1)|@own_end" % (i, i))
+    expect("owns", "\n".join(text), "memory.c")
+
+
+def test_lock_that_a_thread_came_upon_while_it_ran_on_another_stack():
+    forked = "main|fork(main.1:goes_elsewhere)|@elsewhere_fork\nmain|join(main.1:goes_elsewhere)|@elsewhere_join\n"
+    thread = "\nmain.1:goes_elsewhere|acq(mutex@@use#1)|@use\nmain.1:goes_elsewhere|rel(mutex@@use#1)|@use_end"
+    expect("elsewhere", forked + uses(1) + thread, "memory.c")
+
+
 def test_thread_that_gives_its_handle_back():
     """The memory may be gone before the call that made the thread has come back."""
     run = record("./memory", "handles")
