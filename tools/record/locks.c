@@ -58,7 +58,7 @@ static uint64_t neighbour_word(const struct thread *thread, uint64_t key, uintpt
         const struct known_call *known = &thread->known_calls[first ^ i];
         uint64_t word = known->word;
         __atomic_signal_fence(__ATOMIC_SEQ_CST);
-        int is_this = known->callers && known_call_is(known, key, return_address, stack, generation);
+        int is_this = known->callers && known_call_is(thread, known, key, return_address, stack, generation);
         __atomic_signal_fence(__ATOMIC_SEQ_CST);
         if (is_this && known->word == word)
             return word;

@@ -453,6 +453,7 @@ static struct process parent_process;
 static struct thread *parent_thread;
 static struct held parent_held[HELD_LIMIT];
 static uint32_t parent_held_count;
+static uintptr_t parent_stack[2];
 static struct slow_state fork_state;
 
 static void fork_prepare(void)
@@ -466,6 +467,8 @@ static void fork_prepare(void)
     parent_held_count = thread ? thread->held_count : 0;
     if (thread)
         memcpy(parent_held, thread->held, sizeof parent_held);
+    parent_stack[0] = thread ? thread->stack_from : 0;
+    parent_stack[1] = thread ? thread->stack_to : 0;
 }
 
 static void fork_in_parent(void)
@@ -474,7 +477,7 @@ static void fork_in_parent(void)
     slow_leave(&state);
 }
 
-/* The child has one thread. It holds what the forking thread held, and never asked for it. Its state has the place of
+/* The child has one thread, on the stack of the forking one. It holds what that held, and never asked for it. Its state has the place of
  * that of the forking thread: where a signal handler forked, the call that it came in goes on with that. */
 static void fork_in_child(void)
 {
@@ -490,6 +493,10 @@ static void fork_in_child(void)
     state.thread = &thread_none;
     slow_leave(&state);
     struct thread *thread = process.state == PROCESS_RECORDED ? recording_thread() : NULL;
+    if (thread) {
+        thread->stack_from = parent_stack[0];
+        thread->stack_to = parent_stack[1];
+    }
     for (uint32_t i = 0; thread && i < parent_held_count; i++) {
         struct held *held = &parent_held[i];
         enum event_kind kind = is_shared(held->word) ? EVENT_TRY_SHARED_ACQUIRE : EVENT_TRY_ACQUIRE;

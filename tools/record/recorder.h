@@ -160,6 +160,7 @@ struct caller {
 
 struct callers {
     size_t count;
+    uint64_t distance; /* up to the last one, where a frame may have another size at each call; else 0 */
     struct caller further[];
 };
 
@@ -498,10 +499,11 @@ static inline uint32_t site_number(uintptr_t return_address, uintptr_t stack)
     return site_slow(return_address, stack, &callers);
 }
 
-/* Whether the call has these callers. Each one is looked at before the place of the next, as far up as the stack goes.
- */
-static inline int has_callers(const struct callers *callers, uintptr_t stack)
+/* Whether the call has these callers. None is looked for beyond the end of the stack. */
+static inline int has_callers(const struct thread *thread, const struct callers *callers, uintptr_t stack)
 {
+    if (callers->distance > 0 && callers->distance > stack_above(thread, stack))
+        return 0;
     for (size_t i = 0; i < callers->count; i++) {
         stack += callers->further[i].step;
         if (((uintptr_t *)stack)[-1] != callers->further[i].address)
@@ -524,11 +526,11 @@ static inline uint64_t known_call_place(uint64_t lock, uintptr_t return_address)
     return mix(lock + return_address) >> (64 - KNOWN_CALL_BITS);
 }
 
-static inline int known_call_is(const struct known_call *known, uint64_t lock, uintptr_t return_address,
-                                uintptr_t stack, uint64_t generation)
+static inline int known_call_is(const struct thread *thread, const struct known_call *known, uint64_t lock,
+                                uintptr_t return_address, uintptr_t stack, uint64_t generation)
 {
     return known->address == lock && known->return_address == return_address && known->generation == generation &&
-           (likely(!known->callers) || has_callers(known->callers, stack));
+           (likely(!known->callers) || has_callers(thread, known->callers, stack));
 }
 
 /* Site and lock of a call, as parts of a word. A signal handler's call may take the place between any two of these
@@ -541,7 +543,7 @@ call_word(struct thread *thread, const void *address, enum lock_class class, uin
     uint64_t generation = __atomic_load_n(&process.generation, __ATOMIC_ACQUIRE);
     uint64_t word = known->word;
     __atomic_signal_fence(__ATOMIC_SEQ_CST);
-    if (likely(known_call_is(known, lock, return_address, stack, generation))) {
+    if (likely(known_call_is(thread, known, lock, return_address, stack, generation))) {
         __atomic_signal_fence(__ATOMIC_SEQ_CST);
         if (likely(known->word == word))
             return word;

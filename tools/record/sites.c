@@ -504,6 +504,9 @@ static const struct callers *callers_known(uint32_t site, uintptr_t return_addre
         struct callers *made = callers_room(bytes);
         if (made) {
             made->count = count;
+            made->distance = 0;
+            for (size_t i = 0; process.frames > 1 && i < count; i++)
+                made->distance += further[i].step;
             memcpy(made->further, further, count * sizeof *further);
             __atomic_store_n(&slot->value, (uint64_t)(uintptr_t)made, __ATOMIC_RELEASE);
         }
@@ -541,7 +544,9 @@ static uint32_t site_single(uintptr_t return_address, uintptr_t stack, const str
  * Unwinding is slow, so the table of sites also has what was found at each return address: how far up the next one
  * lies, and whether this is a call inside a wrapper. Following these steps leads to a site that is known, or the stack
  * is unwound again. An address at which two distances were found (of a function whose frame has no fixed size) is never
- * used so, nor is a frame that a signal interrupted.
+ * used so, nor is a frame that a signal interrupted. No step leads out of the thread's own stack: who comes there with a
+ * frame of another size than before may have less stack above than the step is long. On another stack, of which nobody
+ * knows where it ends, each call is unwound.
  */
 #define STEP_KNOWN 1u
 #define STEP_WRAPPER 2u
@@ -577,9 +582,12 @@ static uint32_t site_of_steps(uintptr_t return_address, uintptr_t stack, const s
             *callers = callers_known(site, first, further, i);
             return site;
         }
-        stack += value >> STEP_SHIFT;
+        uint64_t step = value >> STEP_SHIFT;
+        if (step > stack_above(current_thread, stack))
+            return 0;
+        stack += step;
         return_address = ((uintptr_t *)stack)[-1];
-        further[i] = (struct caller){return_address, value >> STEP_SHIFT};
+        further[i] = (struct caller){return_address, step};
     }
     return 0;
 }

@@ -4,6 +4,7 @@
 #include <limits.h>
 #include <string.h>
 #include <sys/mman.h>
+#include <sys/resource.h>
 #include <sys/syscall.h>
 #include <unistd.h>
 
@@ -106,6 +107,22 @@ static struct thread_record *thread_record_found(void)
     return record;
 }
 
+/* The stack of the first thread. Where it may grow without end it is taken for one of this size: what lies deeper counts
+ * as elsewhere. */
+#define STACK_USUAL (1ul << 26)
+
+extern void *__libc_stack_end;
+
+static void stack_of_first(struct thread *thread)
+{
+    struct rlimit limit;
+    if (getrlimit(RLIMIT_STACK, &limit) != 0)
+        return;
+    uintptr_t bytes = limit.rlim_cur < STACK_USUAL ? limit.rlim_cur : STACK_USUAL;
+    thread->stack_to = (uintptr_t)__libc_stack_end;
+    thread->stack_from = thread->stack_to > bytes ? thread->stack_to - bytes : 0;
+}
+
 static struct thread *thread_start(void)
 {
     if (!own_record)
@@ -117,6 +134,8 @@ static struct thread *thread_start(void)
     thread->number = (uint32_t)own_record->thread;
     thread->keys = thread->first_keys;
     thread->key_mask = KEYS_FIRST - 1;
+    if (thread->number == 0)
+        stack_of_first(thread);
     return thread_chunk(thread) ? thread : NULL;
 }
 
