@@ -205,7 +205,7 @@ class Process:
             self.first_lock, self.first_site, self.frames = values[5:8]
             self.command = text_of(values[9:])
         elif kind == RECORD_MODULE:
-            path = text_of(values[3:])
+            path = path_of(values[3:])
             self.modules.load(values[:3].tolist(), modules.setdefault(path, Module(path)))
         elif kind == RECORD_UNLOADED:
             self.modules.unload(values[0])
@@ -241,6 +241,11 @@ class Process:
 
 def text_of(words):
     return words.tobytes().split(b"\0", 1)[0].decode("utf-8", "backslashreplace")
+
+
+def path_of(words):
+    """By which a file is found again, also where it is no text."""
+    return os.fsdecode(words.tobytes().split(b"\0", 1)[0])
 
 
 def read_chunks(path):
@@ -367,9 +372,16 @@ def read_tables(recording, wanted):
 # --- Events -------------------------------------------------------------------------------------------
 
 
-def packed_text(text):
-    data = text.encode("utf-8", "backslashreplace")
+def packed_bytes(data):
     return array("Q", [len(data)]).tobytes() + data + bytes(-len(data) % 8)
+
+
+def packed_text(text):
+    return packed_bytes(text.encode("utf-8", "backslashreplace"))
+
+
+def packed_path(path):
+    return packed_bytes(os.fsencode(path))
 
 
 def packed_texts(texts):
@@ -384,7 +396,7 @@ def packed_files(threads):
     for thread in threads:
         for path, _, _ in thread.chunks:
             files.setdefault(path, len(files))
-    return files, array("Q", [len(files)]).tobytes() + b"".join(map(packed_text, files))
+    return files, array("Q", [len(files)]).tobytes() + b"".join(map(packed_path, files))
 
 
 def packed_numbers(numbers):
@@ -814,7 +826,7 @@ def write_lines(process, traces):
     for path, members in traces:
         order = [thread for thread in names.order if members is None or thread.number in members]
         parts += [
-            packed_text(path),
+            packed_path(path),
             packed_texts({thread.number: thread.name for thread in order}),
             packed_chunks(order, files),
         ]
