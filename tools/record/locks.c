@@ -10,7 +10,10 @@ uint32_t lock_number_new(struct thread *thread, const void *address, enum lock_c
                          uint32_t site)
 {
     struct slow_state state;
+    int in_module = module_meet((uintptr_t)address, class == LOCK_ONCE);
     slow_enter(&state);
+    if (in_module)
+        modules_tell();
     uint64_t number = 0;
     struct slot *slot = table_place(&process.locks, (uint64_t)(uintptr_t)address);
     if (slot && slot->value && origin == LOCK_FOUND) {

@@ -291,6 +291,8 @@ static void beginning_map(struct beginning *beginning, const pthread_t *handle)
 static struct beginning *beginning_plan(struct thread *thread, uint64_t routine, void *argument)
 {
     struct slow_state state;
+    if (argument)
+        module_meet(routine, 1);
     slow_enter(&state);
     struct beginning *beginning = beginning_new();
     if (beginning) {

@@ -33,6 +33,7 @@ def programs(tmp_path_factory):
     for name, line in (("one", 100), ("two", 200)):
         flags = ["-shared", "-fPIC", "-DNAME=" + name, "-DLINE=%d" % line]
         build("gcc", C_FLAGS + flags + ["-o", "plugin-%s.so" % name, source("plugin.c")], folder)
+        build("gcc", C_FLAGS + flags + ["-o", "locker-%s.so" % name, source("locker.c")], folder)
     build("gcc", C_FLAGS + ["-shared", "-fPIC", "-o", "liblibrary.so", source("library.c")], folder)
     flags = ["-L.", "-Wl,--no-as-needed", "-llibrary", "-Wl,-rpath,$ORIGIN"]
     build("gcc", C_FLAGS + ["-o", "uses-library", source("uses_library.c")] + flags, folder)

@@ -1,6 +1,7 @@
 /* Memory that is given back with locks in it, which nobody destroyed: the first argument names a program. */
 #define _GNU_SOURCE
 #include <dlfcn.h>
+#include <link.h>
 #include <malloc.h>
 #include <pthread.h>
 #include <stdint.h>
@@ -8,6 +9,7 @@
 #include <stdlib.h>
 #include <string.h>
 #include <sys/mman.h>
+#include <sys/resource.h>
 #include <ucontext.h>
 #include <unistd.h>
 
@@ -212,13 +214,66 @@ static void plugins(void)
     }
 }
 
+/* The same, of libraries whose locks are used by others alone. */
+static void lockers(void)
+{
+    static const char *const names[] = {"./locker-one.so", "./locker-two.so"};
+    for (int i = 0; i < 2; i++) {
+        void *library = dlopen(names[i], RTLD_NOW);
+        MUST(library != NULL);
+        pthread_mutex_t *lock = dlsym(library, i == 0 ? "lock_of_one" : "lock_of_two");
+        static pthread_mutex_t *place;
+        MUST(lock != NULL && (place == NULL || place == lock));
+        place = lock;
+        use(lock);
+        MUST(dlclose(library) == 0);
+    }
+}
+
+static int visits_stop;
+
+static int visit(struct dl_phdr_info *info, size_t size, void *unused)
+{
+    (void)info, (void)size, (void)unused;
+    struct node *node = calloc(1, sizeof *node);
+    use(&node->lock);
+    free(node);
+    return 0;
+}
+
+static void *visits_libraries(void *unused)
+{
+    while (!__atomic_load_n(&visits_stop, __ATOMIC_ACQUIRE))
+        dl_iterate_phdr(visit, NULL);
+    return unused;
+}
+
+/* While one thread unloads libraries another one goes through all that there are, and takes a new lock at each. */
+static void visits(void)
+{
+    struct rlimit limit = {10, 10}; /* seconds of a processor: then it hangs */
+    pthread_t thread;
+    setrlimit(RLIMIT_CPU, &limit);
+    MUST(pthread_create(&thread, NULL, visits_libraries, NULL) == 0);
+    for (int i = 0; i < 500; i++) {
+        void *library = dlopen("./plugin-one.so", RTLD_NOW);
+        MUST(library != NULL);
+        ((void (*)(void))(uintptr_t)dlsym(library, "run"))();
+        MUST(dlclose(library) == 0);
+    }
+    __atomic_store_n(&visits_stop, 1, __ATOMIC_RELEASE);
+    pthread_join(thread, NULL);
+}
+
 int main(int count, char **arguments)
 {
     static const struct {
         const char *name;
         void (*run)(void);
-    } programs[] = {{"freed", freed},       {"moved", moved},         {"unmapped", unmapped}, {"stacks", stacks},
-                    {"plugins", plugins},   {"owns", owns},           {"elsewhere", elsewhere}, {"handles", handles}};
+    } programs[] = {
+        {"freed", freed}, {"moved", moved},         {"unmapped", unmapped}, {"stacks", stacks},   {"owns", owns},
+        {"elsewhere", elsewhere}, {"handles", handles}, {"plugins", plugins}, {"lockers", lockers}, {"visits", visits},
+    };
     for (size_t i = 0; count > 1 && i < sizeof programs / sizeof programs[0]; i++)
         if (strcmp(programs[i].name, arguments[1]) == 0) {
             programs[i].run();

@@ -72,3 +72,21 @@ def test_library_in_the_place_of_another():
         main|rel(lock_of_two)|plugin.c:200""",
         "memory.c",
     )
+
+
+def test_library_without_code_in_the_place_of_another():
+    expect(
+        "lockers",
+        """
+        main|acq(lock_of_one)|@use
+        main|rel(lock_of_one)|@use_end
+        main|acq(lock_of_two)|@use
+        main|rel(lock_of_two)|@use_end""",
+        "memory.c",
+    )
+
+
+def test_libraries_that_are_visited_while_others_are_unloaded():
+    """The visitor takes new locks while it keeps the list of libraries from being changed. The program goes on."""
+    run = record("./memory", "visits")
+    assert run.status == 0, "status %d: %s" % (run.status, run.said)
