@@ -7,9 +7,11 @@
  */
 #define _GNU_SOURCE
 #include <dlfcn.h>
+#include <errno.h>
 #include <stdarg.h>
 #include <stdlib.h>
 #include <sys/mman.h>
+#include <sys/shm.h>
 #include <sys/syscall.h>
 #include <unistd.h>
 
@@ -244,6 +246,44 @@ EXPORTED void *mremap(void *start, size_t bytes, size_t new_bytes, int flags, ..
     else if (result != MAP_FAILED && new_bytes < bytes)
         memory_end((uintptr_t)start + new_bytes, (uintptr_t)start + bytes);
     return result;
+}
+
+static void segment_note(void *start, size_t bytes)
+{
+    struct slow_state state;
+    slow_enter(&state);
+    struct slot *slot = table_place(&process.segments, (uint64_t)(uintptr_t)start);
+    if (slot)
+        __atomic_store_n(&slot->value, bytes, __ATOMIC_RELEASE);
+    slow_leave(&state);
+}
+
+/* How long a segment is, is asked while it is attached: who lets it go doesn't tell. */
+EXPORTED void *shmat(int segment, const void *start, int flags)
+{
+    if (unlikely(!real_found))
+        real_find();
+    void *result = real.shmat(segment, start, flags);
+    int error = errno;
+    struct shmid_ds about;
+    if (result != (void *)-1 && process.state == PROCESS_RECORDED && !slow_inside() &&
+        shmctl(segment, IPC_STAT, &about) == 0) {
+        if (flags & SHM_REMAP)
+            memory_end((uintptr_t)result, (uintptr_t)result + about.shm_segsz);
+        segment_note(result, about.shm_segsz);
+    }
+    errno = error;
+    return result;
+}
+
+EXPORTED int shmdt(const void *start)
+{
+    if (unlikely(!real_found))
+        real_find();
+    struct slot *slot = table_find(&process.segments, (uint64_t)(uintptr_t)start);
+    if (slot)
+        memory_end((uintptr_t)start, (uintptr_t)start + __atomic_load_n(&slot->value, __ATOMIC_ACQUIRE));
+    return real.shmdt(start);
 }
 
 EXPORTED int dlclose(void *handle)

@@ -415,6 +415,7 @@ static void process_start(const struct process *parent)
         process.sites = parent->sites;
         process.callers = parent->callers;
         process.lock_pages = parent->lock_pages;
+        process.segments = parent->segments;
         process.frames = parent->frames;
         process.all = parent->all;
         strcpy(process.directory, parent->directory);
@@ -477,8 +478,9 @@ static void fork_in_parent(void)
     slow_leave(&state);
 }
 
-/* The child has one thread, on the stack of the forking one. It holds what that held, and never asked for it. Its state has the place of
- * that of the forking thread: where a signal handler forked, the call that it came in goes on with that. */
+/* The child has one thread, on the stack of the forking one. It holds what that held, and never asked for it. Its state
+ * has the place of that of the forking thread: where a signal handler forked, the call that it came in goes on with
+ * that. */
 static void fork_in_child(void)
 {
     struct slow_state state = fork_state;

@@ -52,7 +52,8 @@ void memory_end_inside(uintptr_t start, uintptr_t end);
 /* Makes the recorder's unwinder ready. Called between slow_enter and slow_leave. */
 void unwinder_start(void);
 
-/* Whether the address lies in the compiler's own library. Called between slow_enter and slow_leave, after module_meet. */
+/* Whether the address lies in the compiler's own library. Called between slow_enter and slow_leave, after module_meet.
+ */
 int in_compiler_module(uint64_t address);
 
 /* In a forked child: the present thread is the first thread of the new process. */

@@ -58,6 +58,8 @@ typedef const struct timespec *deadline_t;
     X(int, munmap, (void *, size_t)) \
     X(void *, mmap, (void *, size_t, int, int, int, off_t)) \
     X(void *, mremap, (void *, size_t, size_t, int, void *)) \
+    X(void *, shmat, (int, const void *, int)) \
+    X(int, shmdt, (const void *)) \
     X(int, dlclose, (void *)) \
     X(int, setuid, (uid_t)) \
     X(int, seteuid, (uid_t)) \

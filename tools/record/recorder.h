@@ -76,6 +76,7 @@ struct process {
     struct address_table callers;    /* sites of several callers: their struct callers */
     struct address_table threads;    /* pthread_t: number of the thread, plus one */
     struct address_table lock_pages; /* pages of memory: where locks are in them, see memory.c */
+    struct address_table segments;   /* where a segment of shared memory was attached: its size */
     uint64_t generation; /* counts what ends known calls: locks made and destroyed, steps up the stack that vary */
     uint64_t next_lock, next_site, next_thread;
     char *extent;

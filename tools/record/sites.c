@@ -293,9 +293,9 @@ static int module_visit(struct dl_phdr_info *info, size_t size, void *value)
     return 0;
 }
 
-/* Makes all modules known that there are; gives the number of this look. While it visits them nobody else may: a callback
- * of the program's that visits them, too, may wait for the end of a slow part. So this isn't called in slow parts, but
- * has some itself. */
+/* Makes all modules known that there are; gives the number of this look. While it visits them nobody else may: a
+ * callback of the program's that visits them, too, may wait for the end of a slow part. So this isn't called in slow
+ * parts, but has some itself. */
 static uint64_t modules_look(void)
 {
     static uint64_t looks;
@@ -588,9 +588,9 @@ static uint32_t site_single(uintptr_t return_address, uintptr_t stack, const str
  * Unwinding is slow, so the table of sites also has what was found at each return address: how far up the next one
  * lies, and whether this is a call inside a wrapper. Following these steps leads to a site that is known, or the stack
  * is unwound again. An address at which two distances were found (of a function whose frame has no fixed size) is never
- * used so, nor is a frame that a signal interrupted. No step leads out of the thread's own stack: who comes there with a
- * frame of another size than before may have less stack above than the step is long. On another stack, of which nobody
- * knows where it ends, each call is unwound.
+ * used so, nor is a frame that a signal interrupted. No step leads out of the thread's own stack: who comes there with
+ * a frame of another size than before may have less stack above than the step is long. On another stack, of which
+ * nobody knows where it ends, each call is unwound.
  */
 #define STEP_KNOWN 1u
 #define STEP_WRAPPER 2u

@@ -107,8 +107,8 @@ static struct thread_record *thread_record_found(void)
     return record;
 }
 
-/* The stack of the first thread. Where it may grow without end it is taken for one of this size: what lies deeper counts
- * as elsewhere. */
+/* The stack of the first thread. Where it may grow without end it is taken for one of this size: what lies deeper
+ * counts as elsewhere. */
 #define STACK_USUAL (1ul << 26)
 
 extern void *__libc_stack_end;
