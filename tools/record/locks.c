@@ -44,7 +44,7 @@ uint32_t lock_number_new(struct thread *thread, const void *address, enum lock_c
         number = process.next_lock++;
         lock_tell(thread, number, address, class, origin, site);
         __atomic_store_n(&slot->value, number, __ATOMIC_RELEASE);
-        memory_note(thread, (uintptr_t)address);
+        memory_note((uintptr_t)address);
     } else {
         loss_begins();
         count_loss(&process.losses->locks);

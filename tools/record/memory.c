@@ -1,6 +1,6 @@
 /*
  * Memory that is given back. A lock in it is at its end, though nobody destroyed it: what is made later at its address
- * is another lock.
+ * is another lock. So is what is made on a thread's stack, or as a thread-local, where one was that has ended.
  *
  * Each page of memory in which a lock was met has a map of the places where one is; a filter of bytes says fast of most
  * pages that there is none. Places are set and cleared in slow parts, and read by anybody.
@@ -71,7 +71,7 @@ static struct lock_page *page_new(uintptr_t page)
     return made;
 }
 
-void memory_note(struct thread *thread, uintptr_t address)
+void memory_note(uintptr_t address)
 {
     uintptr_t page = address >> PAGE_BITS;
     struct lock_page *found = page_find(page);
@@ -80,11 +80,6 @@ void memory_note(struct thread *thread, uintptr_t address)
     size_t place = address % PAGE_BYTES / PLACE_BYTES;
     if (found)
         __atomic_fetch_or(&found->places[place / 64], 1ull << place % 64, __ATOMIC_RELEASE);
-    uintptr_t here = (uintptr_t)__builtin_frame_address(0);
-    int is_first = thread->number == 0; /* whose stack stays */
-    if (!is_first && address > here && address - here < stack_above(thread, here) &&
-        (thread->stack_low == 0 || address < thread->stack_low))
-        thread->stack_low = address;
 }
 
 void memory_forget(uintptr_t address)

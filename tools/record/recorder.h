@@ -194,7 +194,6 @@ struct thread {
     uint32_t exit_rounds;
     uint32_t holds;                 /* how often it was held back in vain (confirm.c) */
     uintptr_t stack_from, stack_to; /* its own stack lies between these, with its thread-locals; 0, 0: not known */
-    uintptr_t stack_low;            /* the lowest lock in there that is to end with the thread; 0: none */
     struct thread *next_free;
     uint64_t sink; /* takes what there is no room for */
     struct held held[HELD_LIMIT];
@@ -464,7 +463,7 @@ static inline uint32_t lock_number(struct thread *thread, const void *address, e
 }
 
 /* Where locks are in memory (memory.c). */
-void memory_note(struct thread *thread, uintptr_t address);
+void memory_note(uintptr_t address);
 void memory_forget(uintptr_t address);
 
 /* Slow inside: the lock was taken though a thread had ended that held it. */

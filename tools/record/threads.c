@@ -187,8 +187,8 @@ static void thread_exit(void *value)
         slow_leave(&state);
         return;
     }
-    if (thread->stack_low)
-        memory_end_inside(thread->stack_low, thread->stack_to);
+    if (thread->number != 0 && thread->stack_from < thread->stack_to) /* that of the first one stays */
+        memory_end_inside(thread->stack_from, thread->stack_to);
     if (thread->keys != thread->first_keys)
         pages_drop(thread->keys, sizeof *thread->keys * (thread->key_mask + 1));
     thread->next_free = process.free_threads;
@@ -342,8 +342,12 @@ static size_t stack_bytes_of(const pthread_attr_t *attributes)
     return bytes;
 }
 
+/* At its other end a stack has a page that is never used, or less is taken for its own than is. */
+#define STACK_MARGIN CHUNK_UNIT
+
 /* The frames of what the thread runs lie below the one here. Its thread-locals lie above that, and below what its
- * handle is the address of (of other machines than x86-64 that isn't so). */
+ * handle is the address of (of other machines than x86-64 that isn't so). Above that is what else belongs to its stack.
+ */
 static void thread_adopt(struct beginning *beginning, void *frame)
 {
     pthread_t self = pthread_self();
@@ -358,7 +362,7 @@ static void thread_adopt(struct beginning *beginning, void *frame)
 #else
     thread->stack_to = (uintptr_t)frame;
 #endif
-    thread->stack_from = thread->stack_to > stack_bytes ? thread->stack_to - stack_bytes : 0;
+    thread->stack_from = thread->stack_to - stack_bytes + STACK_MARGIN;
     (void)frame;
 }
 

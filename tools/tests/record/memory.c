@@ -114,6 +114,35 @@ static void stacks(void)
     }
 }
 
+static uintptr_t lent_place;
+
+static void *uses_lent(void *lock)
+{
+    use(lock);
+    return NULL;
+}
+
+static void *lends(void *unused)
+{
+    pthread_mutex_t lock = PTHREAD_MUTEX_INITIALIZER;
+    pthread_t thread;
+    MUST(lent_place == 0 || lent_place == (uintptr_t)&lock);
+    lent_place = (uintptr_t)&lock;
+    pthread_create(&thread, NULL, uses_lent, &lock); /* @lent_fork */
+    pthread_join(thread, NULL);                      /* @lent_join */
+    return unused;
+}
+
+/* A lock on a thread's stack is used by a thread of its own alone; the second one's lies where the first one's was. */
+static void lent(void)
+{
+    for (int i = 0; i < 2; i++) {
+        pthread_t thread;
+        pthread_create(&thread, NULL, lends, NULL); /* @lends_fork */
+        pthread_join(thread, NULL);                 /* @lends_join */
+    }
+}
+
 static __thread pthread_mutex_t own_lock = PTHREAD_MUTEX_INITIALIZER;
 static uintptr_t own_place;
 
@@ -271,7 +300,7 @@ int main(int count, char **arguments)
         const char *name;
         void (*run)(void);
     } programs[] = {
-        {"freed", freed}, {"moved", moved},         {"unmapped", unmapped}, {"stacks", stacks},   {"owns", owns},
+        {"freed", freed}, {"moved", moved},         {"unmapped", unmapped}, {"stacks", stacks},   {"lent", lent},     {"owns", owns},
         {"elsewhere", elsewhere}, {"handles", handles}, {"plugins", plugins}, {"lockers", lockers}, {"visits", visits},
     };
     for (size_t i = 0; count > 1 && i < sizeof programs / sizeof programs[0]; i++)

@@ -42,6 +42,16 @@ def test_lock_on_the_stack_of_a_thread_that_ended():
     expect("stacks", "\n".join(text), "memory.c")
 
 
+def test_lock_on_the_stack_of_a_thread_that_another_one_used():
+    text = ["main|fork(main.%d:lends)|@lends_fork\nmain|join(main.%d:lends)|@lends_join" % (i, i) for i in (1, 2)]
+    for i in (1, 2):
+        text.append("main.%d:lends|fork(main.%d.1:uses_lent)|@lent_fork" % (i, i))
+        text.append("main.%d:lends|join(main.%d.1:uses_lent)|@lent_join" % (i, i))
+        text.append("main.%d.1:uses_lent|acq(mutex@@use#main.%d.1:1)|@use" % (i, i))
+        text.append("main.%d.1:uses_lent|rel(mutex@@use#main.%d.1:1)|@use_end" % (i, i))
+    expect("lent", "\n".join(text), "memory.c")
+
+
 def test_thread_local_lock_of_a_thread_that_ended():
     text = ["main|fork(main.%d:uses_own)|@own_fork\nmain|join(main.%d:uses_own)|@own_join" % (i, i) for i in (1, 2)]
     for i in (1, 2):
