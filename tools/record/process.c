@@ -449,7 +449,8 @@ void user_directory(uid_t user)
 
 /* --- Fork ----------------------------------------------------------------------------------------------- */
 
-/* What the child needs of its parent, kept where a fork doesn't wipe it. */
+/* What the child needs of its parent, kept where a fork doesn't wipe it; and of whoever forks now, which only that one
+ * writes, between slow_enter and slow_leave: others may be about to fork, too. */
 static struct process parent_process;
 static struct thread *parent_thread;
 static struct held parent_held[HELD_LIMIT];
@@ -460,7 +461,9 @@ static struct slow_state fork_state;
 static void fork_prepare(void)
 {
     struct thread *thread = process.state == PROCESS_RECORDED ? recording_thread() : NULL;
-    slow_enter(&fork_state);
+    struct slow_state state;
+    slow_enter(&state);
+    fork_state = state;
     if (process.record)
         process.record->forks++;
     parent_process = process;
