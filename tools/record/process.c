@@ -63,6 +63,38 @@ int slow_inside(void)
     return in_slow_part;
 }
 
+/* While a thread visits all modules no other one forks: the loader's lock would be taken in the child for ever. And no
+ * signal comes, as its handler may fork. */
+static void visitors_add(int count)
+{
+    struct slow_state state;
+    slow_enter(&state);
+    process.visitors += count;
+    slow_leave(&state);
+}
+
+void visit_begin(uint64_t *signals)
+{
+    uint64_t every = ~0ull;
+    signals_set(SIG_BLOCK, &every, signals);
+    visitors_add(1);
+}
+
+void visit_end(const uint64_t *signals)
+{
+    visitors_add(-1);
+    signals_set(SIG_SETMASK, signals, NULL);
+}
+
+/* Into a slow part in which nobody visits. */
+static void slow_enter_alone(struct slow_state *state)
+{
+    for (slow_enter(state); process.visitors > 0; slow_enter(state)) {
+        slow_leave(state);
+        sched_yield();
+    }
+}
+
 /* --- Memory and files ----------------------------------------------------------------------------------- */
 
 void *pages_new(size_t bytes)
@@ -462,7 +494,7 @@ static void fork_prepare(void)
 {
     struct thread *thread = process.state == PROCESS_RECORDED ? recording_thread() : NULL;
     struct slow_state state;
-    slow_enter(&state);
+    slow_enter_alone(&state);
     fork_state = state;
     if (process.record)
         process.record->forks++;

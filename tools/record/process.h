@@ -22,6 +22,11 @@ void user_directory(uid_t user);
 /* Whether the present thread is between slow_enter and slow_leave. */
 int slow_inside(void);
 
+/* Before and after a visit to all modules by the loader, outside of slow parts: nobody forks in between, and no signal
+ * comes. */
+void visit_begin(uint64_t *signals);
+void visit_end(const uint64_t *signals);
+
 /* A new file with room for so many bytes, mapped; NULL if there is none. */
 void *file_map(const char *path, uint64_t bytes);
 

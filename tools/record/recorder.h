@@ -70,6 +70,7 @@ enum process_state { PROCESS_NEW = 0, PROCESS_RECORDED = 1, PROCESS_OFF = 2 };
 struct process {
     int state;
     int slow_lock;
+    int visitors; /* threads that visit all modules, see visit_begin */
     uint64_t pid, image;
     struct address_table locks;      /* address of a lock: its number, 0 after it was destroyed */
     struct address_table sites;      /* return address: its site or step to the caller, see sites.c */

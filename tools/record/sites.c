@@ -300,7 +300,10 @@ static uint64_t modules_look(void)
 {
     static uint64_t looks;
     uint64_t look = __atomic_add_fetch(&looks, 1, __ATOMIC_RELAXED);
+    uint64_t signals;
+    visit_begin(&signals);
     dl_iterate_phdr(module_visit, &look);
+    visit_end(&signals);
     return look;
 }
 

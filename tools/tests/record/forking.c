@@ -6,7 +6,7 @@
 #include <unistd.h>
 
 #define THREADS 4
-#define TURNS 200
+#define TURNS 40
 
 static long wrong_parents, wrong_children;
 
