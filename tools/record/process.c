@@ -189,7 +189,7 @@ static uint64_t extent_bytes(uint64_t number)
  * if there is such a file. */
 static char *extent_map(uint64_t image, uint64_t number, uint64_t least)
 {
-    char path[4096];
+    static char path[4096]; /* not on the stack, of which a thread may have little */
     int file = extent_open(path, sizeof path, image, number);
     if (file < 0)
         return NULL;
