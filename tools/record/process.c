@@ -36,12 +36,14 @@ static void signals_set(int how, const uint64_t *set, uint64_t *old)
 }
 
 /* While a thread is in a slow part it has no current thread: a lock that a library takes on the
- * recorder's behalf isn't recorded. */
+ * recorder's behalf isn't recorded. Nor is it cancelled where the recorder opens a file, as it would be in no call of a
+ * lock. */
 void slow_enter(struct slow_state *state)
 {
     uint64_t every = ~0ull;
     state->error = errno;
     signals_set(SIG_BLOCK, &every, &state->signals);
+    pthread_setcancelstate(PTHREAD_CANCEL_DISABLE, &state->cancel_state);
     while (__atomic_exchange_n(&process.slow_lock, 1, __ATOMIC_ACQUIRE))
         sched_yield();
     state->thread = current_thread;
@@ -56,6 +58,7 @@ void slow_leave(struct slow_state *state)
     __atomic_store_n(&process.slow_lock, 0, __ATOMIC_RELEASE);
     signals_set(SIG_SETMASK, &state->signals, NULL);
     errno = state->error;
+    pthread_setcancelstate(state->cancel_state, NULL);
 }
 
 int slow_inside(void)

@@ -103,10 +103,11 @@ extern struct process process;
 struct slow_state {
     struct thread *thread;
     int error;
+    int cancel_state;
     uint64_t signals;
 };
 
-/* Shuts out signal handlers and other threads' slow parts; keeps errno. */
+/* Shuts out signal handlers, cancellation and other threads' slow parts; keeps errno. */
 void slow_enter(struct slow_state *state);
 void slow_leave(struct slow_state *state);
 
