@@ -139,6 +139,40 @@ static void page_end(struct lock_page *page, uintptr_t start, uintptr_t end)
             } \
     }
 
+static struct held *held_in_page(struct thread *thread, const struct lock_page *page, uintptr_t start, uintptr_t end)
+{
+    for (size_t word = 0; word < PAGE_WORDS; word++)
+        for (uint64_t places = places_within(page, word, start, end); places; places &= places - 1) {
+            uintptr_t first = (page->page << PAGE_BITS) + word * 64 * PLACE_BYTES;
+            struct slot *slot = table_find(&process.locks, first + (unsigned)__builtin_ctzll(places) * PLACE_BYTES);
+            struct held *held = slot && slot->value ? held_find(thread, (uint32_t)slot->value) : NULL;
+            if (held)
+                return held;
+        }
+    return NULL;
+}
+
+/* A lock in the range that the thread holds, or NULL. */
+static struct held *held_in(struct thread *thread, uintptr_t start, uintptr_t end)
+{
+    struct held *held = NULL;
+    FOR_PAGES(start, end, held = held_in_page(thread, page, start, end); if (held) return held)
+    return NULL;
+}
+
+/* What the present thread holds there it holds no longer: nobody will wait for that any more. */
+static void held_end(uintptr_t start, uintptr_t end)
+{
+    struct thread *thread = current_thread;
+    if (!thread->chunk)
+        return;
+    for (struct held *held; thread->held_count > 0 && (held = held_in(thread, start, end)) != NULL;) {
+        uint64_t call = held->word - word_kind(held->word);
+        for (uint64_t depth = held->depth; depth > 0; depth--)
+            release_write(thread, call);
+    }
+}
+
 static int range_holds(uintptr_t start, uintptr_t end)
 {
     FOR_PAGES(start, end, if (page_holds(page, start, end)) return 1)
@@ -155,6 +189,7 @@ void memory_end(uintptr_t start, uintptr_t end)
     if (lock_page_count == 0 || start >= end || slow_inside() || process.state != PROCESS_RECORDED ||
         !range_holds(start, end))
         return;
+    held_end(start, end);
     struct slow_state state;
     slow_enter(&state);
     memory_end_inside(start, end);

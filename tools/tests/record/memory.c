@@ -47,6 +47,16 @@ static void freed(void)
     pthread_mutex_unlock(&b);          /* @freed_second_b_end */
 }
 
+/* Memory is given back with a lock in it that is held: nobody holds it any more. */
+static void freed_held(void)
+{
+    struct node *node = calloc(1, sizeof *node);
+    pthread_mutex_lock(&node->lock); /* @held */
+    free(node);
+    pthread_mutex_lock(&b);   /* @held_b */
+    pthread_mutex_unlock(&b); /* @held_b_end */
+}
+
 static void use(pthread_mutex_t *lock)
 {
     pthread_mutex_lock(lock);   /* @use */
@@ -300,7 +310,7 @@ int main(int count, char **arguments)
         const char *name;
         void (*run)(void);
     } programs[] = {
-        {"freed", freed}, {"moved", moved},         {"unmapped", unmapped}, {"stacks", stacks},   {"lent", lent},     {"owns", owns},
+        {"freed", freed},         {"freed_held", freed_held}, {"moved", moved},         {"unmapped", unmapped}, {"stacks", stacks},   {"lent", lent},     {"owns", owns},
         {"elsewhere", elsewhere}, {"handles", handles}, {"plugins", plugins}, {"lockers", lockers}, {"visits", visits},
     };
     for (size_t i = 0; count > 1 && i < sizeof programs / sizeof programs[0]; i++)

@@ -19,6 +19,18 @@ def test_lock_in_freed_memory_is_at_its_end():
     )
 
 
+def test_lock_that_is_held_in_freed_memory():
+    expect(
+        "freed_held",
+        """
+        main|acq(mutex@@held#1)|@held
+        main|rel(mutex@@held#1)|@held
+        main|acq(b)|@held_b
+        main|rel(b)|@held_b_end""",
+        "memory.c",
+    )
+
+
 def uses(*numbers):
     """A use of a lock that was used before is left out: so there are as many as there are locks."""
     return "\n".join("main|acq(mutex@@use#%d)|@use\nmain|rel(mutex@@use#%d)|@use_end" % (n, n) for n in numbers)
