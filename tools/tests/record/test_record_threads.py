@@ -145,11 +145,11 @@ def test_signals_at_any_instruction():
 @pytest.mark.parametrize("frames", [1, 16])
 def test_thread_with_the_smallest_stack(frames):
     """The recorder takes no more of it than the program's own calls do."""
-    run = record("./small", options=["--frames", "%d" % frames])
+    run = record("./thousands", options=["--frames", "%d" % frames])
     assert run.status == 0 and " 30001 locks" in run.said, "status %d: %s" % (run.status, run.said)
 
 
 def test_thread_that_is_to_be_cancelled():
     """It isn't in the calls of the recorder, as the program's own are none at which that may happen."""
-    run = record("./small", "cancelled")
+    run = record("./thousands", "cancelled")
     assert run.status == 0 and run.out == "30000 taken\n", "status %d: %s%s" % (run.status, run.out, run.said)
