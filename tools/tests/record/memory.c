@@ -282,8 +282,10 @@ static int visit(struct dl_phdr_info *info, size_t size, void *unused)
 
 static void *visits_libraries(void *unused)
 {
-    while (!__atomic_load_n(&visits_stop, __ATOMIC_ACQUIRE))
+    while (!__atomic_load_n(&visits_stop, __ATOMIC_ACQUIRE)) {
         dl_iterate_phdr(visit, NULL);
+        usleep(100); /* lets the other one in */
+    }
     return unused;
 }
 
