@@ -73,6 +73,7 @@ typedef const struct timespec *deadline_t;
     X(int, execvp, (const char *, char *const[])) \
     X(int, execvpe, (const char *, char *const[], char *const[])) \
     X(int, fexecve, (int, char *const[], char *const[])) \
+    X(int, execveat, (int, const char *, char *const[], char *const[], int)) \
     X(int, pthread_once, (pthread_once_t *, void (*)(void))) \
     X(void, call_once, (once_flag *, void (*)(void)))
 
