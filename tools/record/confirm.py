@@ -246,8 +246,8 @@ class Run:
     def __init__(self, settings, directory, preload, plan):
         self.recording = new_recording(os.path.join(directory, "run"))
         plan_path = os.path.join(directory, "plan")
-        with open(plan_path, "w") as file:
-            file.write(plan)
+        with open(plan_path, "wb") as file:
+            file.write(os.fsencode(plan))
         settings.frames, settings.all = 1, False
         environment = child_environment(settings, self.recording.directory, preload.path)
         environment["GOODLOCK_CONFIRM_PLAN"] = plan_path

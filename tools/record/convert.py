@@ -12,6 +12,7 @@ import sys
 from array import array
 from collections import Counter
 
+from births import threads_by_birth
 from build import built
 from symbols import Module, demangled, is_wrapper_source, short_function, short_paths, short_variable
 
@@ -83,7 +84,6 @@ class Thread:
         "when",
         "chunks",
         "kinds",
-        "path",
         "name",
         "routine_name",
     )
@@ -96,7 +96,6 @@ class Thread:
         self.when = when
         self.chunks = []  # (order, path, offset of the words, how many)
         self.kinds = NO_KINDS
-        self.path = None
         self.name = None
         self.routine_name = None  # that its recorder told
 
@@ -205,7 +204,7 @@ class Process:
             self.first_lock, self.first_site, self.frames = values[5:8]
             self.command = text_of(values[9:])
         elif kind == RECORD_MODULE:
-            path = text_of(values[3:])
+            path = path_of(values[3:])
             self.modules.load(values[:3].tolist(), modules.setdefault(path, Module(path)))
         elif kind == RECORD_UNLOADED:
             self.modules.unload(values[0])
@@ -241,6 +240,11 @@ class Process:
 
 def text_of(words):
     return words.tobytes().split(b"\0", 1)[0].decode("utf-8", "backslashreplace")
+
+
+def path_of(words):
+    """By which a file is found again, also where it is no text."""
+    return os.fsdecode(words.tobytes().split(b"\0", 1)[0])
 
 
 def read_chunks(path):
@@ -367,9 +371,16 @@ def read_tables(recording, wanted):
 # --- Events -------------------------------------------------------------------------------------------
 
 
-def packed_text(text):
-    data = text.encode("utf-8", "backslashreplace")
+def packed_bytes(data):
     return array("Q", [len(data)]).tobytes() + data + bytes(-len(data) % 8)
+
+
+def packed_text(text):
+    return packed_bytes(text.encode("utf-8", "backslashreplace"))
+
+
+def packed_path(path):
+    return packed_bytes(os.fsencode(path))
 
 
 def packed_texts(texts):
@@ -384,7 +395,7 @@ def packed_files(threads):
     for thread in threads:
         for path, _, _ in thread.chunks:
             files.setdefault(path, len(files))
-    return files, array("Q", [len(files)]).tobytes() + b"".join(map(packed_text, files))
+    return files, array("Q", [len(files)]).tobytes() + b"".join(map(packed_path, files))
 
 
 def packed_numbers(numbers):
@@ -541,33 +552,22 @@ class Names:
         self.inherited_counts = Counter(self.counts)
         self.counted = {}  # by lock: what was counted for its name, and how far
         self.locks = {}
-        self.name_threads()
-        self.order = sorted(process.threads.values(), key=lambda thread: thread.path)
+        self.order = self.name_threads()
         self.name_locks()
 
     # Threads
 
-    def path_of(self, thread):
-        """The way of births from the first thread; foreign threads come after all others."""
-        if thread.path is None:
-            if thread.parent == FOREIGN:
-                thread.path = (1, thread.number)
-            elif thread.child == 0:
-                thread.path = (0,)
-            else:
-                thread.path = self.path_of(self.process.threads[thread.parent]) + (thread.child,)
-        return thread.path
-
     def name_threads(self):
+        """Gives them in the order of their births."""
         threads = self.process.threads
         routines = {thread.number: self.routine_of(thread) for thread in threads.values()}
         readable = demangled(routines.values())
-        for thread in threads.values():
-            path = self.path_of(thread)
-            root = "main" if path[0] == 0 else "other"
-            name = ".".join([root] + ["%d" % child for child in path[1:]])
+        order = []
+        for thread, way in threads_by_birth(threads, FOREIGN):
             routine = thread.routine_name or routine_name(routines[thread.number], readable)
-            thread.name = clean(name + (":" + routine if routine else ""))
+            thread.name = clean(way.name() + (":" + routine if routine else ""))
+            order.append(thread)
+        return order
 
     def symbol_of(self, address, when, begins=False):
         """The name of the symbol at an address in memory; with `begins`, only of one that begins there."""
@@ -814,7 +814,7 @@ def write_lines(process, traces):
     for path, members in traces:
         order = [thread for thread in names.order if members is None or thread.number in members]
         parts += [
-            packed_text(path),
+            packed_path(path),
             packed_texts({thread.number: thread.name for thread in order}),
             packed_chunks(order, files),
         ]

@@ -101,6 +101,12 @@ EXPORTED int fexecve(int file, char *const arguments[], char *const environment[
     ENDING(END_EXEC, real.fexecve(file, arguments, environment));
 }
 
+/* The C library has it since 2021. */
+EXPORTED int execveat(int folder, const char *path, char *const arguments[], char *const environment[], int flags)
+{
+    ENDING(END_EXEC, real.execveat(folder, path, arguments, environment, flags));
+}
+
 /* Makes `arguments` of the words of a call that has them one by one, and `environment` of what comes behind them. */
 #define ARGUMENTS(first, environment) \
     va_list words; \

@@ -29,7 +29,7 @@ from convert import (
     packed_chunks,
     packed_files,
     packed_numbers,
-    packed_text,
+    packed_path,
     packed_texts,
     process_paths,
     processes_of,
@@ -96,7 +96,7 @@ def copy_events(recording):
         extents.setdefault((pid, image), []).append(path)
     request = [array("Q", [len(extents)]).tobytes()]
     for paths in extents.values():
-        request += [array("Q", [len(paths)]).tobytes()] + [packed_text(path) for path in paths]
+        request += [array("Q", [len(paths)]).tobytes()] + [packed_path(path) for path in paths]
     path = recording.work_file("copy")
     answer = array("Q")
     began = time.monotonic()
@@ -184,7 +184,7 @@ def answered_reports(process, sets, question, ways, path):
     parts.append(array("Q", [MODES[question.mode], question.length, question.most, len(sets)]).tobytes())
     for members in sets:
         order = [thread for thread in names.order if members is None or thread.number in members]
-        parts += [packed_text(path), array("Q", [ways]).tobytes()]
+        parts += [packed_path(path), array("Q", [ways]).tobytes()]
         parts += [packed_texts({thread.number: thread.name for thread in order}), packed_chunks(order, files)]
     os.close(os.open(path, os.O_WRONLY | os.O_CREAT | os.O_TRUNC | os.O_CLOEXEC | os.O_NOFOLLOW, 0o600))
     answer = array("Q")

@@ -6,42 +6,51 @@
 
 /* --- Locks ---------------------------------------------------------------------------------------------- */
 
+/* Without a record it still has a number of its own. */
+static void lock_tell(struct thread *thread, uint64_t number, const void *address, enum lock_class class,
+                      enum lock_origin origin, uint32_t site)
+{
+    struct lock_record *record = record_new(RECORD_LOCK, sizeof *record);
+    if (!record) {
+        loss_begins();
+        count_loss(&process.losses->locks);
+        return;
+    }
+    record->lock = number;
+    record->class_and_origin = (uint64_t) class | (uint64_t)origin << 32;
+    record->address = (uint64_t)(uintptr_t)address;
+    record->site = site;
+    record->thread_and_order = thread->number | thread->record->made << 32;
+    if (origin == LOCK_MADE)
+        thread->record->made++;
+    record_done(record);
+}
+
 uint32_t lock_number_new(struct thread *thread, const void *address, enum lock_class class, enum lock_origin origin,
                          uint32_t site)
 {
     struct slow_state state;
+    int in_module = module_meet((uintptr_t)address, class == LOCK_ONCE);
     slow_enter(&state);
+    if (in_module)
+        modules_tell();
     uint64_t number = 0;
     struct slot *slot = table_place(&process.locks, (uint64_t)(uintptr_t)address);
     if (slot && slot->value && origin == LOCK_FOUND) {
         number = slot->value; /* another thread was faster */
     } else if (slot && class == LOCK_ONCE && in_compiler_module((uintptr_t)address)) {
         slot->value = number = LOCK_IGNORED;
+    } else if (slot) {
+        number = process.next_lock++;
+        lock_tell(thread, number, address, class, origin, site);
+        __atomic_store_n(&slot->value, number, __ATOMIC_RELEASE);
+        memory_note((uintptr_t)address);
     } else {
-        /* Without a record it still has a number of its own. */
-        struct lock_record *record = slot ? record_new(RECORD_LOCK, sizeof *record) : NULL;
-        number = slot ? process.next_lock++ : 0;
-        if (!record) {
-            loss_begins();
-            count_loss(&process.losses->locks);
-        }
-        if (record) {
-            record->lock = number;
-            record->class_and_origin = (uint64_t) class | (uint64_t)origin << 32;
-            record->address = (uint64_t)(uintptr_t)address;
-            record->site = site;
-            record->thread_and_order = thread->number | thread->record->made << 32;
-            if (origin == LOCK_MADE)
-                thread->record->made++;
-            record_done(record);
-        }
-        if (slot) {
-            __atomic_store_n(&slot->value, number, __ATOMIC_RELEASE);
-            memory_note(thread, (uintptr_t)address);
-        }
-        if (origin == LOCK_MADE)
-            __atomic_fetch_add(&process.generation, 1, __ATOMIC_RELEASE);
+        loss_begins();
+        count_loss(&process.losses->locks);
     }
+    if (number != LOCK_IGNORED && origin == LOCK_MADE)
+        __atomic_fetch_add(&process.generation, 1, __ATOMIC_RELEASE);
     slow_leave(&state);
     return (uint32_t)number;
 }
@@ -58,7 +67,7 @@ static uint64_t neighbour_word(const struct thread *thread, uint64_t key, uintpt
         const struct known_call *known = &thread->known_calls[first ^ i];
         uint64_t word = known->word;
         __atomic_signal_fence(__ATOMIC_SEQ_CST);
-        int is_this = known->callers && known_call_is(known, key, return_address, stack, generation);
+        int is_this = known->callers && known_call_is(thread, known, key, return_address, stack, generation);
         __atomic_signal_fence(__ATOMIC_SEQ_CST);
         if (is_this && known->word == word)
             return word;

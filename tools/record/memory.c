@@ -1,15 +1,17 @@
 /*
  * Memory that is given back. A lock in it is at its end, though nobody destroyed it: what is made later at its address
- * is another lock.
+ * is another lock. So is what is made on a thread's stack, or as a thread-local, where one was that has ended.
  *
  * Each page of memory in which a lock was met has a map of the places where one is; a filter of bytes says fast of most
  * pages that there is none. Places are set and cleared in slow parts, and read by anybody.
  */
 #define _GNU_SOURCE
 #include <dlfcn.h>
+#include <errno.h>
 #include <stdarg.h>
 #include <stdlib.h>
 #include <sys/mman.h>
+#include <sys/shm.h>
 #include <sys/syscall.h>
 #include <unistd.h>
 
@@ -69,7 +71,7 @@ static struct lock_page *page_new(uintptr_t page)
     return made;
 }
 
-void memory_note(struct thread *thread, uintptr_t address)
+void memory_note(uintptr_t address)
 {
     uintptr_t page = address >> PAGE_BITS;
     struct lock_page *found = page_find(page);
@@ -78,9 +80,6 @@ void memory_note(struct thread *thread, uintptr_t address)
     size_t place = address % PAGE_BYTES / PLACE_BYTES;
     if (found)
         __atomic_fetch_or(&found->places[place / 64], 1ull << place % 64, __ATOMIC_RELEASE);
-    uintptr_t here = (uintptr_t)__builtin_frame_address(0);
-    if (address > here && address < thread->stack_top && (thread->stack_low == 0 || address < thread->stack_low))
-        thread->stack_low = address;
 }
 
 void memory_forget(uintptr_t address)
@@ -140,6 +139,40 @@ static void page_end(struct lock_page *page, uintptr_t start, uintptr_t end)
             } \
     }
 
+static struct held *held_in_page(struct thread *thread, const struct lock_page *page, uintptr_t start, uintptr_t end)
+{
+    for (size_t word = 0; word < PAGE_WORDS; word++)
+        for (uint64_t places = places_within(page, word, start, end); places; places &= places - 1) {
+            uintptr_t first = (page->page << PAGE_BITS) + word * 64 * PLACE_BYTES;
+            struct slot *slot = table_find(&process.locks, first + (unsigned)__builtin_ctzll(places) * PLACE_BYTES);
+            struct held *held = slot && slot->value ? held_find(thread, (uint32_t)slot->value) : NULL;
+            if (held)
+                return held;
+        }
+    return NULL;
+}
+
+/* A lock in the range that the thread holds, or NULL. */
+static struct held *held_in(struct thread *thread, uintptr_t start, uintptr_t end)
+{
+    struct held *held = NULL;
+    FOR_PAGES(start, end, held = held_in_page(thread, page, start, end); if (held) return held)
+    return NULL;
+}
+
+/* What the present thread holds there it holds no longer: nobody will wait for that any more. */
+static void held_end(uintptr_t start, uintptr_t end)
+{
+    struct thread *thread = current_thread;
+    if (!thread->chunk)
+        return;
+    for (struct held *held; thread->held_count > 0 && (held = held_in(thread, start, end)) != NULL;) {
+        uint64_t call = held->word - word_kind(held->word);
+        for (uint64_t depth = held->depth; depth > 0; depth--)
+            release_write(thread, call);
+    }
+}
+
 static int range_holds(uintptr_t start, uintptr_t end)
 {
     FOR_PAGES(start, end, if (page_holds(page, start, end)) return 1)
@@ -156,6 +189,7 @@ void memory_end(uintptr_t start, uintptr_t end)
     if (lock_page_count == 0 || start >= end || slow_inside() || process.state != PROCESS_RECORDED ||
         !range_holds(start, end))
         return;
+    held_end(start, end);
     struct slow_state state;
     slow_enter(&state);
     memory_end_inside(start, end);
@@ -242,6 +276,44 @@ EXPORTED void *mremap(void *start, size_t bytes, size_t new_bytes, int flags, ..
     else if (result != MAP_FAILED && new_bytes < bytes)
         memory_end((uintptr_t)start + new_bytes, (uintptr_t)start + bytes);
     return result;
+}
+
+static void segment_note(void *start, size_t bytes)
+{
+    struct slow_state state;
+    slow_enter(&state);
+    struct slot *slot = table_place(&process.segments, (uint64_t)(uintptr_t)start);
+    if (slot)
+        __atomic_store_n(&slot->value, bytes, __ATOMIC_RELEASE);
+    slow_leave(&state);
+}
+
+/* How long a segment is, is asked while it is attached: who lets it go doesn't tell. */
+EXPORTED void *shmat(int segment, const void *start, int flags)
+{
+    if (unlikely(!real_found))
+        real_find();
+    void *result = real.shmat(segment, start, flags);
+    int error = errno;
+    struct shmid_ds about;
+    if (result != (void *)-1 && process.state == PROCESS_RECORDED && !slow_inside() &&
+        shmctl(segment, IPC_STAT, &about) == 0) {
+        if (flags & SHM_REMAP)
+            memory_end((uintptr_t)result, (uintptr_t)result + about.shm_segsz);
+        segment_note(result, about.shm_segsz);
+    }
+    errno = error;
+    return result;
+}
+
+EXPORTED int shmdt(const void *start)
+{
+    if (unlikely(!real_found))
+        real_find();
+    struct slot *slot = table_find(&process.segments, (uint64_t)(uintptr_t)start);
+    if (slot)
+        memory_end((uintptr_t)start, (uintptr_t)start + __atomic_load_n(&slot->value, __ATOMIC_ACQUIRE));
+    return real.shmdt(start);
 }
 
 EXPORTED int dlclose(void *handle)

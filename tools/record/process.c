@@ -36,12 +36,14 @@ static void signals_set(int how, const uint64_t *set, uint64_t *old)
 }
 
 /* While a thread is in a slow part it has no current thread: a lock that a library takes on the
- * recorder's behalf isn't recorded. */
+ * recorder's behalf isn't recorded. Nor is it cancelled where the recorder opens a file, as it would be in no call of a
+ * lock. */
 void slow_enter(struct slow_state *state)
 {
     uint64_t every = ~0ull;
     state->error = errno;
     signals_set(SIG_BLOCK, &every, &state->signals);
+    pthread_setcancelstate(PTHREAD_CANCEL_DISABLE, &state->cancel_state);
     while (__atomic_exchange_n(&process.slow_lock, 1, __ATOMIC_ACQUIRE))
         sched_yield();
     state->thread = current_thread;
@@ -56,11 +58,44 @@ void slow_leave(struct slow_state *state)
     __atomic_store_n(&process.slow_lock, 0, __ATOMIC_RELEASE);
     signals_set(SIG_SETMASK, &state->signals, NULL);
     errno = state->error;
+    pthread_setcancelstate(state->cancel_state, NULL);
 }
 
 int slow_inside(void)
 {
     return in_slow_part;
+}
+
+/* While a thread visits all modules no other one forks: the loader's lock would be taken in the child for ever. And no
+ * signal comes, as its handler may fork. */
+static void visitors_add(int count)
+{
+    struct slow_state state;
+    slow_enter(&state);
+    process.visitors += count;
+    slow_leave(&state);
+}
+
+void visit_begin(uint64_t *signals)
+{
+    uint64_t every = ~0ull;
+    signals_set(SIG_BLOCK, &every, signals);
+    visitors_add(1);
+}
+
+void visit_end(const uint64_t *signals)
+{
+    visitors_add(-1);
+    signals_set(SIG_SETMASK, signals, NULL);
+}
+
+/* Into a slow part in which nobody visits. */
+static void slow_enter_alone(struct slow_state *state)
+{
+    for (slow_enter(state); process.visitors > 0; slow_enter(state)) {
+        slow_leave(state);
+        sched_yield();
+    }
 }
 
 /* --- Memory and files ----------------------------------------------------------------------------------- */
@@ -157,7 +192,7 @@ static uint64_t extent_bytes(uint64_t number)
  * if there is such a file. */
 static char *extent_map(uint64_t image, uint64_t number, uint64_t least)
 {
-    char path[4096];
+    static char path[4096]; /* not on the stack, of which a thread may have little */
     int file = extent_open(path, sizeof path, image, number);
     if (file < 0)
         return NULL;
@@ -415,6 +450,7 @@ static void process_start(const struct process *parent)
         process.sites = parent->sites;
         process.callers = parent->callers;
         process.lock_pages = parent->lock_pages;
+        process.segments = parent->segments;
         process.frames = parent->frames;
         process.all = parent->all;
         strcpy(process.directory, parent->directory);
@@ -448,17 +484,21 @@ void user_directory(uid_t user)
 
 /* --- Fork ----------------------------------------------------------------------------------------------- */
 
-/* What the child needs of its parent, kept where a fork doesn't wipe it. */
+/* What the child needs of its parent, kept where a fork doesn't wipe it; and of whoever forks now, which only that one
+ * writes, between slow_enter and slow_leave: others may be about to fork, too. */
 static struct process parent_process;
 static struct thread *parent_thread;
 static struct held parent_held[HELD_LIMIT];
 static uint32_t parent_held_count;
+static uintptr_t parent_stack[2];
 static struct slow_state fork_state;
 
 static void fork_prepare(void)
 {
     struct thread *thread = process.state == PROCESS_RECORDED ? recording_thread() : NULL;
-    slow_enter(&fork_state);
+    struct slow_state state;
+    slow_enter_alone(&state);
+    fork_state = state;
     if (process.record)
         process.record->forks++;
     parent_process = process;
@@ -466,6 +506,8 @@ static void fork_prepare(void)
     parent_held_count = thread ? thread->held_count : 0;
     if (thread)
         memcpy(parent_held, thread->held, sizeof parent_held);
+    parent_stack[0] = thread ? thread->stack_from : 0;
+    parent_stack[1] = thread ? thread->stack_to : 0;
 }
 
 static void fork_in_parent(void)
@@ -474,8 +516,9 @@ static void fork_in_parent(void)
     slow_leave(&state);
 }
 
-/* The child has one thread. It holds what the forking thread held, and never asked for it. Its state has the place of
- * that of the forking thread: where a signal handler forked, the call that it came in goes on with that. */
+/* The child has one thread, on the stack of the forking one. It holds what that held, and never asked for it. Its state
+ * has the place of that of the forking thread: where a signal handler forked, the call that it came in goes on with
+ * that. */
 static void fork_in_child(void)
 {
     struct slow_state state = fork_state;
@@ -490,6 +533,10 @@ static void fork_in_child(void)
     state.thread = &thread_none;
     slow_leave(&state);
     struct thread *thread = process.state == PROCESS_RECORDED ? recording_thread() : NULL;
+    if (thread) {
+        thread->stack_from = parent_stack[0];
+        thread->stack_to = parent_stack[1];
+    }
     for (uint32_t i = 0; thread && i < parent_held_count; i++) {
         struct held *held = &parent_held[i];
         enum event_kind kind = is_shared(held->word) ? EVENT_TRY_SHARED_ACQUIRE : EVENT_TRY_ACQUIRE;

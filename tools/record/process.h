@@ -22,6 +22,11 @@ void user_directory(uid_t user);
 /* Whether the present thread is between slow_enter and slow_leave. */
 int slow_inside(void);
 
+/* Before and after a visit to all modules by the loader, outside of slow parts: nobody forks in between, and no signal
+ * comes. */
+void visit_begin(uint64_t *signals);
+void visit_end(const uint64_t *signals);
+
 /* A new file with room for so many bytes, mapped; NULL if there is none. */
 void *file_map(const char *path, uint64_t bytes);
 
@@ -31,8 +36,15 @@ void number_note(enum record_kind kind, uint64_t number);
 /* Pages that are zero in a forked child. */
 void *pages_new_wiped(size_t bytes);
 
+/* Before a slow part: makes the module that lies at an address known; whether there is one. Where that can't be told
+ * without a visit to all modules, they are visited if `otherwise` is 1. */
+int module_meet(uintptr_t address, int otherwise);
+
+/* Writes the modules that are known to this process's file. Called between slow_enter and slow_leave. */
+void modules_tell(void);
+
 /* Whether a thread's start routine is one of the C++ library, which runs the object that it is given. Called between
- * slow_enter and slow_leave. */
+ * slow_enter and slow_leave, after module_meet. */
 int runs_object(uint64_t routine);
 
 /* After a library may have gone: ends what is known of those that have. */
@@ -45,7 +57,8 @@ void memory_end_inside(uintptr_t start, uintptr_t end);
 /* Makes the recorder's unwinder ready. Called between slow_enter and slow_leave. */
 void unwinder_start(void);
 
-/* Whether the address lies in the compiler's own library. Called between slow_enter and slow_leave. */
+/* Whether the address lies in the compiler's own library. Called between slow_enter and slow_leave, after module_meet.
+ */
 int in_compiler_module(uint64_t address);
 
 /* In a forked child: the present thread is the first thread of the new process. */

@@ -58,6 +58,8 @@ typedef const struct timespec *deadline_t;
     X(int, munmap, (void *, size_t)) \
     X(void *, mmap, (void *, size_t, int, int, int, off_t)) \
     X(void *, mremap, (void *, size_t, size_t, int, void *)) \
+    X(void *, shmat, (int, const void *, int)) \
+    X(int, shmdt, (const void *)) \
     X(int, dlclose, (void *)) \
     X(int, setuid, (uid_t)) \
     X(int, seteuid, (uid_t)) \
@@ -71,6 +73,7 @@ typedef const struct timespec *deadline_t;
     X(int, execvp, (const char *, char *const[])) \
     X(int, execvpe, (const char *, char *const[], char *const[])) \
     X(int, fexecve, (int, char *const[], char *const[])) \
+    X(int, execveat, (int, const char *, char *const[], char *const[], int)) \
     X(int, pthread_once, (pthread_once_t *, void (*)(void))) \
     X(void, call_once, (once_flag *, void (*)(void)))
 

@@ -70,12 +70,14 @@ enum process_state { PROCESS_NEW = 0, PROCESS_RECORDED = 1, PROCESS_OFF = 2 };
 struct process {
     int state;
     int slow_lock;
+    int visitors; /* threads that visit all modules, see visit_begin */
     uint64_t pid, image;
     struct address_table locks;      /* address of a lock: its number, 0 after it was destroyed */
     struct address_table sites;      /* return address: its site or step to the caller, see sites.c */
     struct address_table callers;    /* sites of several callers: their struct callers */
     struct address_table threads;    /* pthread_t: number of the thread, plus one */
     struct address_table lock_pages; /* pages of memory: where locks are in them, see memory.c */
+    struct address_table segments;   /* where a segment of shared memory was attached: its size */
     uint64_t generation; /* counts what ends known calls: locks made and destroyed, steps up the stack that vary */
     uint64_t next_lock, next_site, next_thread;
     char *extent;
@@ -101,10 +103,11 @@ extern struct process process;
 struct slow_state {
     struct thread *thread;
     int error;
+    int cancel_state;
     uint64_t signals;
 };
 
-/* Shuts out signal handlers and other threads' slow parts; keeps errno. */
+/* Shuts out signal handlers, cancellation and other threads' slow parts; keeps errno. */
 void slow_enter(struct slow_state *state);
 void slow_leave(struct slow_state *state);
 
@@ -160,6 +163,7 @@ struct caller {
 
 struct callers {
     size_t count;
+    uint64_t distance; /* up to the last one, where a frame may have another size at each call; else 0 */
     struct caller further[];
 };
 
@@ -191,7 +195,7 @@ struct thread {
     uint32_t number;
     uint32_t exit_rounds;
     uint32_t holds;                 /* how often it was held back in vain (confirm.c) */
-    uintptr_t stack_top, stack_low; /* where its stack begins, and the lowest lock in it; 0: not known, none */
+    uintptr_t stack_from, stack_to; /* its own stack lies between these, with its thread-locals; 0, 0: not known */
     struct thread *next_free;
     uint64_t sink; /* takes what there is no room for */
     struct held held[HELD_LIMIT];
@@ -200,6 +204,13 @@ struct thread {
     struct known_call known_calls[1 << KNOWN_CALL_BITS];
     uint64_t first_keys[KEYS_FIRST];
 };
+
+/* How much of the thread's own stack lies above this place in it. Of a place elsewhere none, as on a stack that the
+ * program made for a coroutine or for signals: nobody knows where that ends. */
+static inline uint64_t stack_above(const struct thread *thread, uintptr_t place)
+{
+    return place >= thread->stack_from && place < thread->stack_to ? thread->stack_to - place : 0;
+}
 
 /* Stands for a thread that isn't ready, or is in a slow part: it has no chunk. */
 extern struct thread thread_none;
@@ -454,7 +465,7 @@ static inline uint32_t lock_number(struct thread *thread, const void *address, e
 }
 
 /* Where locks are in memory (memory.c). */
-void memory_note(struct thread *thread, uintptr_t address);
+void memory_note(uintptr_t address);
 void memory_forget(uintptr_t address);
 
 /* Slow inside: the lock was taken though a thread had ended that held it. */
@@ -490,10 +501,11 @@ static inline uint32_t site_number(uintptr_t return_address, uintptr_t stack)
     return site_slow(return_address, stack, &callers);
 }
 
-/* Whether the call has these callers. Each one is looked at before the place of the next, as far up as the stack goes.
- */
-static inline int has_callers(const struct callers *callers, uintptr_t stack)
+/* Whether the call has these callers. None is looked for beyond the end of the stack. */
+static inline int has_callers(const struct thread *thread, const struct callers *callers, uintptr_t stack)
 {
+    if (callers->distance > 0 && callers->distance > stack_above(thread, stack))
+        return 0;
     for (size_t i = 0; i < callers->count; i++) {
         stack += callers->further[i].step;
         if (((uintptr_t *)stack)[-1] != callers->further[i].address)
@@ -516,11 +528,11 @@ static inline uint64_t known_call_place(uint64_t lock, uintptr_t return_address)
     return mix(lock + return_address) >> (64 - KNOWN_CALL_BITS);
 }
 
-static inline int known_call_is(const struct known_call *known, uint64_t lock, uintptr_t return_address,
-                                uintptr_t stack, uint64_t generation)
+static inline int known_call_is(const struct thread *thread, const struct known_call *known, uint64_t lock,
+                                uintptr_t return_address, uintptr_t stack, uint64_t generation)
 {
     return known->address == lock && known->return_address == return_address && known->generation == generation &&
-           (likely(!known->callers) || has_callers(known->callers, stack));
+           (likely(!known->callers) || has_callers(thread, known->callers, stack));
 }
 
 /* Site and lock of a call, as parts of a word. A signal handler's call may take the place between any two of these
@@ -533,7 +545,7 @@ call_word(struct thread *thread, const void *address, enum lock_class class, uin
     uint64_t generation = __atomic_load_n(&process.generation, __ATOMIC_ACQUIRE);
     uint64_t word = known->word;
     __atomic_signal_fence(__ATOMIC_SEQ_CST);
-    if (likely(known_call_is(known, lock, return_address, stack, generation))) {
+    if (likely(known_call_is(thread, known, lock, return_address, stack, generation))) {
         __atomic_signal_fence(__ATOMIC_SEQ_CST);
         if (likely(known->word == word))
             return word;

@@ -1,4 +1,5 @@
-"""Tells of language runtimes in a recorded program: their locks don't pass the C library, and so aren't in its trace."""
+"""Tells of runtimes in a recorded program, of languages and others: their locks don't pass the C library, and so aren't in its
+trace."""
 
 import os
 import re
@@ -47,6 +48,20 @@ RUNTIMES = (
         "std::sync::Mutex and RwLock don't pass the C library and aren't in this trace (those of Rust before 1.62 are); "
         "no tool here records them: write the trace from the program itself "
         '(docs/RECORDING.md, "Traces from another language")',
+    ),
+    Runtime(
+        "OpenMP",
+        r"lib(gomp|omp5?|iomp5)(-\d+)?\.so[\d.]*",
+        None,
+        "its locks and critical sections (omp_set_lock, `omp critical`) don't pass the C library and aren't in this trace; "
+        "no tool here records them",
+    ),
+    Runtime(
+        "GLib",
+        r"libglib-2\.0\.so[\d.]*",
+        None,
+        "GMutex and bit locks (g_mutex_lock) don't pass the C library and aren't in this trace "
+        "(GRWLock and GRecMutex are); no tool here records them",
     ),
 )
 

@@ -7,6 +7,7 @@
  * one return address, as wrappers have frames of fixed sizes: it is found once by unwinding and kept.
  */
 #define _GNU_SOURCE
+#include <dlfcn.h>
 #include <elf.h>
 #include <fcntl.h>
 #include <link.h>
@@ -32,20 +33,21 @@ struct module {
     uintptr_t bias, start, end;
     int all_wrappers; /* the C++ library itself */
     int gone;         /* unloaded */
-    int present;
+    uint64_t seen;    /* the last look that found it */
     struct range *wrappers;
     size_t wrapper_count;
     char path[1024];
 };
 
-/* Kept over forks: a child has the same modules. `modules_described` counts those in this process's file. */
+/* Kept over forks: a child has the same modules. `process.modules` counts those in this process's file. */
 #define MODULE_LIMIT 2048
 static struct module *modules[MODULE_LIMIT];
 static size_t module_count;
 
+/* Is called in slow parts and outside of them. */
 static struct module *module_of(uintptr_t address)
 {
-    for (size_t i = module_count; i-- > 0;)
+    for (size_t i = __atomic_load_n(&module_count, __ATOMIC_ACQUIRE); i-- > 0;)
         if (!modules[i]->gone && address >= modules[i]->start && address < modules[i]->end)
             return modules[i];
     return NULL;
@@ -230,7 +232,7 @@ static int module_describe(const struct module *module)
     return 1;
 }
 
-static void module_add(struct dl_phdr_info *info, uintptr_t start, uintptr_t end)
+static void module_add(struct dl_phdr_info *info, uintptr_t start, uintptr_t end, uint64_t look)
 {
     struct module *module = pages_new(sizeof *module);
     if (!module || module_count == MODULE_LIMIT)
@@ -251,8 +253,9 @@ static void module_add(struct dl_phdr_info *info, uintptr_t start, uintptr_t end
     module->all_wrappers = strncmp(base, "libstdc++.so", 12) == 0 || strncmp(base, "libc++.so", 9) == 0;
     if (!module->all_wrappers)
         module_find_wrappers(module, is_program ? program : module->path);
-    module->present = 1;
-    modules[module_count++] = module;
+    module->seen = look;
+    modules[module_count] = module;
+    __atomic_store_n(&module_count, module_count + 1, __ATOMIC_RELEASE);
 }
 
 /* The range of addresses that a module's parts lie in; whether there is one. */
@@ -272,21 +275,60 @@ static int module_range(const struct dl_phdr_info *info, uintptr_t *start, uintp
     return *end != 0;
 }
 
-static int module_visit(struct dl_phdr_info *info, size_t size, void *unused)
+static int module_visit(struct dl_phdr_info *info, size_t size, void *value)
 {
-    (void)size, (void)unused;
+    uint64_t look = *(uint64_t *)value;
+    struct slow_state state;
     uintptr_t start, end;
+    (void)size;
     if (!module_range(info, &start, &end))
         return 0;
+    slow_enter(&state);
     struct module *known = module_of(start);
-    if (known && known->start == start && known->end == end && known->bias == info->dlpi_addr)
-        known->present = 1;
-    else
-        module_add(info, start, end);
+    if (!known || known->start != start || known->end != end || known->bias != info->dlpi_addr)
+        module_add(info, start, end, look);
+    else if (known->seen < look)
+        known->seen = look;
+    slow_leave(&state);
     return 0;
 }
 
-static void modules_describe(void)
+/* Makes all modules known that there are; gives the number of this look. While it visits them nobody else may: a
+ * callback of the program's that visits them, too, may wait for the end of a slow part. So this isn't called in slow
+ * parts, but has some itself. */
+static uint64_t modules_look(void)
+{
+    static uint64_t looks;
+    uint64_t look = __atomic_add_fetch(&looks, 1, __ATOMIC_RELAXED);
+    uint64_t signals;
+    visit_begin(&signals);
+    dl_iterate_phdr(module_visit, &look);
+    visit_end(&signals);
+    return look;
+}
+
+/* What lies nowhere in a module, as in the heap, is found out without a visit by the C library of 2022 and later. Of an
+ * earlier one `otherwise` is the answer. */
+static int is_in_some_module(uintptr_t address, int otherwise)
+{
+#ifdef DLFO_STRUCT_HAS_EH_DBASE
+    struct dl_find_object found;
+    (void)otherwise;
+    return _dl_find_object((void *)address, &found) == 0;
+#else
+    (void)address;
+    return otherwise;
+#endif
+}
+
+int module_meet(uintptr_t address, int otherwise)
+{
+    if (!module_of(address) && is_in_some_module(address, otherwise))
+        modules_look();
+    return module_of(address) != NULL;
+}
+
+void modules_tell(void)
 {
     while (process.modules < module_count) {
         struct module *module = modules[process.modules];
@@ -296,16 +338,11 @@ static void modules_describe(void)
     }
 }
 
-/* Makes the module that holds an address known, and all modules written to this process's file. */
+/* The module that holds an address, if it was met. All that are known are written to this process's file. */
 static struct module *module_known(uintptr_t address)
 {
-    struct module *module = module_of(address);
-    if (!module) {
-        dl_iterate_phdr(module_visit, NULL);
-        module = module_of(address);
-    }
-    modules_describe();
-    return module;
+    modules_tell();
+    return module_of(address);
 }
 
 int in_compiler_module(uint64_t address)
@@ -348,14 +385,11 @@ static void module_end(struct module *module)
 void modules_check(void)
 {
     struct slow_state state;
+    uint64_t look = modules_look();
     slow_enter(&state);
-    size_t count = module_count;
-    for (size_t i = 0; i < count; i++)
-        modules[i]->present = 0;
-    dl_iterate_phdr(module_visit, NULL);
-    modules_describe();
-    for (size_t i = 0; i < count; i++)
-        if (!modules[i]->gone && !modules[i]->present)
+    modules_tell();
+    for (size_t i = 0; i < module_count; i++)
+        if (!modules[i]->gone && modules[i]->seen < look)
             module_end(modules[i]);
     slow_leave(&state);
 }
@@ -398,6 +432,18 @@ static void walk_from(struct walk *walk, uintptr_t return_address)
     walk->count = 0;
     walk->interrupted = 0;
     _Unwind_Backtrace(walk_step, walk);
+}
+
+/* The same, outside of a slow part: the modules of all addresses are met then. */
+static void walk_and_meet(struct walk *walk, uintptr_t return_address)
+{
+    struct slow_state state;
+    slow_enter(&state);
+    walk_from(walk, return_address);
+    slow_leave(&state);
+    module_meet(return_address, 1);
+    for (size_t i = 0; i < walk->count; i++)
+        module_meet(walk->addresses[i], 1);
 }
 
 static _Unwind_Reason_Code walk_stop(struct _Unwind_Context *context, void *unused)
@@ -473,6 +519,7 @@ static uint64_t step_of(uintptr_t return_address, uintptr_t stack)
 static uint64_t site_value_new(uintptr_t return_address, uintptr_t stack)
 {
     struct slow_state state;
+    module_meet(return_address, 1);
     slow_enter(&state);
     struct slot *slot = table_place(&process.sites, return_address);
     uint64_t value = slot ? slot->value : SITE_PLAIN;
@@ -504,6 +551,9 @@ static const struct callers *callers_known(uint32_t site, uintptr_t return_addre
         struct callers *made = callers_room(bytes);
         if (made) {
             made->count = count;
+            made->distance = 0;
+            for (size_t i = 0; process.frames > 1 && i < count; i++)
+                made->distance += further[i].step;
             memcpy(made->further, further, count * sizeof *further);
             __atomic_store_n(&slot->value, (uint64_t)(uintptr_t)made, __ATOMIC_RELEASE);
         }
@@ -541,7 +591,9 @@ static uint32_t site_single(uintptr_t return_address, uintptr_t stack, const str
  * Unwinding is slow, so the table of sites also has what was found at each return address: how far up the next one
  * lies, and whether this is a call inside a wrapper. Following these steps leads to a site that is known, or the stack
  * is unwound again. An address at which two distances were found (of a function whose frame has no fixed size) is never
- * used so, nor is a frame that a signal interrupted.
+ * used so, nor is a frame that a signal interrupted. No step leads out of the thread's own stack: who comes there with
+ * a frame of another size than before may have less stack above than the step is long. On another stack, of which
+ * nobody knows where it ends, each call is unwound.
  */
 #define STEP_KNOWN 1u
 #define STEP_WRAPPER 2u
@@ -577,9 +629,12 @@ static uint32_t site_of_steps(uintptr_t return_address, uintptr_t stack, const s
             *callers = callers_known(site, first, further, i);
             return site;
         }
-        stack += value >> STEP_SHIFT;
+        uint64_t step = value >> STEP_SHIFT;
+        if (step > stack_above(current_thread, stack))
+            return 0;
+        stack += step;
         return_address = ((uintptr_t *)stack)[-1];
-        further[i] = (struct caller){return_address, value >> STEP_SHIFT};
+        further[i] = (struct caller){return_address, step};
     }
     return 0;
 }
@@ -614,8 +669,8 @@ static uint32_t site_of_walk(uintptr_t return_address)
 {
     struct slow_state state;
     struct walk walk;
+    walk_and_meet(&walk, return_address);
     slow_enter(&state);
-    walk_from(&walk, return_address);
     size_t first = 0;
     while (first < walk.count && module_known(walk.addresses[first]) && is_wrapper(walk.addresses[first]))
         first++;
@@ -658,8 +713,8 @@ size_t stack_copy(uintptr_t return_address, uint64_t *addresses, size_t most)
 {
     struct slow_state state;
     struct walk walk;
+    walk_and_meet(&walk, return_address);
     slow_enter(&state);
-    walk_from(&walk, return_address);
     size_t count = 0, first = 0;
     while (first < walk.count && module_known(walk.addresses[first]) && is_wrapper(walk.addresses[first]))
         first++;

@@ -4,6 +4,7 @@
 #include <limits.h>
 #include <string.h>
 #include <sys/mman.h>
+#include <sys/resource.h>
 #include <sys/syscall.h>
 #include <unistd.h>
 
@@ -106,6 +107,22 @@ static struct thread_record *thread_record_found(void)
     return record;
 }
 
+/* The stack of the first thread. Where it may grow without end it is taken for one of this size: what lies deeper
+ * counts as elsewhere. */
+#define STACK_USUAL (1ul << 26)
+
+extern void *__libc_stack_end;
+
+static void stack_of_first(struct thread *thread)
+{
+    struct rlimit limit;
+    if (getrlimit(RLIMIT_STACK, &limit) != 0)
+        return;
+    uintptr_t bytes = limit.rlim_cur < STACK_USUAL ? limit.rlim_cur : STACK_USUAL;
+    thread->stack_to = (uintptr_t)__libc_stack_end;
+    thread->stack_from = thread->stack_to > bytes ? thread->stack_to - bytes : 0;
+}
+
 static struct thread *thread_start(void)
 {
     if (!own_record)
@@ -117,6 +134,8 @@ static struct thread *thread_start(void)
     thread->number = (uint32_t)own_record->thread;
     thread->keys = thread->first_keys;
     thread->key_mask = KEYS_FIRST - 1;
+    if (thread->number == 0)
+        stack_of_first(thread);
     return thread_chunk(thread) ? thread : NULL;
 }
 
@@ -168,8 +187,8 @@ static void thread_exit(void *value)
         slow_leave(&state);
         return;
     }
-    if (thread->stack_low)
-        memory_end_inside(thread->stack_low, thread->stack_top);
+    if (thread->number != 0 && thread->stack_from < thread->stack_to) /* that of the first one stays */
+        memory_end_inside(thread->stack_from, thread->stack_to);
     if (thread->keys != thread->first_keys)
         pages_drop(thread->keys, sizeof *thread->keys * (thread->key_mask + 1));
     thread->next_free = process.free_threads;
@@ -221,6 +240,7 @@ struct beginning {
     void *(*routine)(void *);
     thrd_start_t c11_routine;
     void *argument;
+    size_t stack_bytes;
     struct thread_record *record;
     int mapped;
     int users;
@@ -255,12 +275,14 @@ static void beginning_drop(struct beginning *beginning)
     }
 }
 
-static void beginning_map(struct beginning *beginning, pthread_t handle)
+/* Until the thread itself was here, none of the program's code ran in it: so where the handle is is still there. After
+ * that the thread may have given back that memory. */
+static void beginning_map(struct beginning *beginning, const pthread_t *handle)
 {
     struct slow_state state;
     slow_enter(&state);
     if (!beginning->mapped)
-        thread_map(handle, beginning->record->thread);
+        thread_map(*handle, beginning->record->thread);
     beginning->mapped = 1;
     beginning_drop(beginning);
     slow_leave(&state);
@@ -269,6 +291,8 @@ static void beginning_map(struct beginning *beginning, pthread_t handle)
 static struct beginning *beginning_plan(struct thread *thread, uint64_t routine, void *argument)
 {
     struct slow_state state;
+    if (argument)
+        module_meet(routine, 1);
     slow_enter(&state);
     struct beginning *beginning = beginning_new();
     if (beginning) {
@@ -304,14 +328,42 @@ static void beginning_undo(struct thread *thread, struct beginning *beginning, u
     count_other(thread);
 }
 
-/* The frames of what the thread runs lie below the one here. */
+/* How much stack a thread has that is made so. */
+static size_t stack_bytes_of(const pthread_attr_t *attributes)
+{
+    pthread_attr_t usual;
+    size_t bytes = 0;
+    if (attributes) {
+        pthread_attr_getstacksize(attributes, &bytes);
+    } else if (pthread_attr_init(&usual) == 0) {
+        pthread_attr_getstacksize(&usual, &bytes);
+        pthread_attr_destroy(&usual);
+    }
+    return bytes;
+}
+
+/* At its other end a stack has a page that is never used, or less is taken for its own than is. */
+#define STACK_MARGIN CHUNK_UNIT
+
+/* The frames of what the thread runs lie below the one here. Its thread-locals lie above that, and below what its
+ * handle is the address of (of other machines than x86-64 that isn't so). Above that is what else belongs to its stack.
+ */
 static void thread_adopt(struct beginning *beginning, void *frame)
 {
+    pthread_t self = pthread_self();
+    size_t stack_bytes = beginning->stack_bytes;
     own_record = beginning->record;
-    beginning_map(beginning, pthread_self());
+    beginning_map(beginning, &self);
     struct thread *thread = recording_thread();
-    if (thread)
-        thread->stack_top = (uintptr_t)frame;
+    if (!thread)
+        return;
+#ifdef __x86_64__
+    thread->stack_to = (uintptr_t)self;
+#else
+    thread->stack_to = (uintptr_t)frame;
+#endif
+    thread->stack_from = thread->stack_to - stack_bytes + STACK_MARGIN;
+    (void)frame;
 }
 
 static void *thread_begin(void *value)
@@ -343,7 +395,7 @@ static uint64_t *fork_write(struct thread *thread, struct beginning *beginning, 
 }
 
 /* The thread was made: the fork stays. */
-static void fork_done(struct thread *thread, struct beginning *beginning, pthread_t handle,
+static void fork_done(struct thread *thread, struct beginning *beginning, const pthread_t *handle,
                       const struct segment *before)
 {
     uint32_t outside = change_begin(thread);
@@ -362,11 +414,12 @@ EXPORTED int pthread_create(pthread_t *handle, const pthread_attr_t *attributes,
     if (!beginning)
         return real.pthread_create(handle, attributes, routine, argument);
     beginning->routine = routine;
+    beginning->stack_bytes = stack_bytes_of(attributes);
     struct segment before;
     uint64_t *place = fork_write(thread, beginning, site, &before);
     int result = real.pthread_create(handle, attributes, thread_begin, beginning);
     if (result == 0)
-        fork_done(thread, beginning, *handle, &before);
+        fork_done(thread, beginning, handle, &before);
     else
         beginning_undo(thread, beginning, place, &before);
     return result;
@@ -380,11 +433,12 @@ EXPORTED int thrd_create(thrd_t *handle, thrd_start_t routine, void *argument)
     if (!beginning)
         return real.thrd_create(handle, routine, argument);
     beginning->c11_routine = routine;
+    beginning->stack_bytes = stack_bytes_of(NULL);
     struct segment before;
     uint64_t *place = fork_write(thread, beginning, site, &before);
     int result = real.thrd_create(handle, thread_begin_c11, beginning);
     if (result == thrd_success)
-        fork_done(thread, beginning, (pthread_t)*handle, &before);
+        fork_done(thread, beginning, handle, &before);
     else
         beginning_undo(thread, beginning, place, &before);
     return result;

@@ -9,7 +9,8 @@ from known_traces import read_line
 
 # In the order of live.c: those by which a process ends itself, and which of them only its parent sees.
 BY_ITSELF = (
-    "returns exits exits_at_once exits_by_c exits_quickly last_thread_ends executes executes_by_words becomes_a_daemon"
+    "returns exits exits_at_once exits_by_c exits_quickly last_thread_ends executes executes_by_words executes_from_folder "
+    "becomes_a_daemon"
 ).split()
 BY_NUMBER = "exits_by_number"
 BY_SIGNAL = ["is_killed", "aborts", "fails_to_execute", "lends_its_memory"]

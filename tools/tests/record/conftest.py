@@ -19,7 +19,7 @@ def programs(tmp_path_factory):
     build("gcc", C_FLAGS + ["-O1", "-o", "locks", source("locks.c")], folder)
     build("gcc", C_FLAGS + ["-O1", "-g0", "-o", "locks-without-lines", source("locks.c")], folder)
     build("gcc", C_FLAGS + ["-O1", "-static", "-o", "locks-static", source("locks.c")], folder)
-    for name in ("random", "walks", "storm", "interrupted"):
+    for name in ("random", "walks", "storm", "interrupted", "forking", "thousands"):
         build("gcc", C_FLAGS + ["-O1", "-o", name, source(name + ".c")], folder)
     build("g++", C_FLAGS + ["-std=c++17", "-O0", "-o", "wrappers-O0", source("wrappers.cc")], folder)
     build("g++", C_FLAGS + ["-std=c++17", "-O2", "-o", "wrappers-O2", source("wrappers.cc")], folder)
@@ -33,6 +33,7 @@ def programs(tmp_path_factory):
     for name, line in (("one", 100), ("two", 200)):
         flags = ["-shared", "-fPIC", "-DNAME=" + name, "-DLINE=%d" % line]
         build("gcc", C_FLAGS + flags + ["-o", "plugin-%s.so" % name, source("plugin.c")], folder)
+        build("gcc", C_FLAGS + flags + ["-o", "locker-%s.so" % name, source("locker.c")], folder)
     build("gcc", C_FLAGS + ["-shared", "-fPIC", "-o", "liblibrary.so", source("library.c")], folder)
     flags = ["-L.", "-Wl,--no-as-needed", "-llibrary", "-Wl,-rpath,$ORIGIN"]
     build("gcc", C_FLAGS + ["-o", "uses-library", source("uses_library.c")] + flags, folder)

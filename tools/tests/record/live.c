@@ -1,6 +1,7 @@
 /* Programs for goodlock-record --live: the first argument names one. What each is predicted to do stands in
  * tools/tests/live. */
 #define _GNU_SOURCE
+#include <fcntl.h>
 #include <pthread.h>
 #include <semaphore.h>
 #include <signal.h>
@@ -664,8 +665,8 @@ static void killed(void)
 
 /* The ways in which a process ends, in the order of test_live_ends.py. */
 enum {
-    RETURNS, EXITS, EXITS_AT_ONCE, EXITS_BY_C, EXITS_QUICKLY, LAST_THREAD_ENDS, EXECUTES, EXECUTES_BY_WORDS, BECOMES_A_DAEMON,
-    EXITS_BY_NUMBER, IS_KILLED, ABORTS, FAILS_TO_EXECUTE, LENDS_ITS_MEMORY
+    RETURNS, EXITS, EXITS_AT_ONCE, EXITS_BY_C, EXITS_QUICKLY, LAST_THREAD_ENDS, EXECUTES, EXECUTES_BY_WORDS, EXECUTES_FROM_FOLDER,
+    BECOMES_A_DAEMON, EXITS_BY_NUMBER, IS_KILLED, ABORTS, FAILS_TO_EXECUTE, LENDS_ITS_MEMORY
 };
 
 static void end_somehow(void)
@@ -679,6 +680,7 @@ static void end_somehow(void)
     case LAST_THREAD_ENDS: pthread_exit(NULL);
     case EXECUTES: execv("/bin/true", arguments); break;
     case EXECUTES_BY_WORDS: execle("/bin/sh", "sh", "-c", "test $0$way = 12 || kill -9 $$", "1", NULL, (char *[]){"way=2", NULL}); break;
+    case EXECUTES_FROM_FOLDER: execveat(AT_FDCWD, "/bin/true", arguments, environ, 0); break;
     case BECOMES_A_DAEMON: if (daemon(1, 1)) raise(SIGKILL); both(&gate, &b); break;
     case EXITS_BY_NUMBER: syscall(SYS_exit_group, 3); break;
     case IS_KILLED: raise(SIGKILL); break;

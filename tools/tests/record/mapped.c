@@ -3,6 +3,7 @@
 #include <pthread.h>
 #include <string.h>
 #include <sys/mman.h>
+#include <sys/shm.h>
 #include <unistd.h>
 
 #define PAGE 4096u
@@ -50,6 +51,21 @@ static void made_smaller(char *start)
     use((pthread_mutex_t *)(start + PAGE));
 }
 
+/* Two segments of shared memory, one after the other at the same place. */
+static void attached(char *start)
+{
+    munmap(start, 3 * PAGE);
+    for (int i = 0; i < 2; i++) {
+        int segment = shmget(IPC_PRIVATE, 2 * PAGE, 0600);
+        if (shmat(segment, start, 0) != start)
+            _exit(97);
+        shmctl(segment, IPC_RMID, NULL);
+        use((pthread_mutex_t *)(start + PAGE));
+        if (shmdt(start) != 0)
+            _exit(96);
+    }
+}
+
 int main(int count, char **arguments)
 {
     char *start = pages(NULL, 3, 0);
@@ -59,7 +75,9 @@ int main(int count, char **arguments)
         mapped_over(start);
     else if (strcmp(arguments[1], "moved") == 0)
         moved(start);
-    else
+    else if (strcmp(arguments[1], "smaller") == 0)
         made_smaller(start);
+    else
+        attached(start);
     return 0;
 }

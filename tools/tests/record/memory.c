@@ -1,6 +1,7 @@
 /* Memory that is given back with locks in it, which nobody destroyed: the first argument names a program. */
 #define _GNU_SOURCE
 #include <dlfcn.h>
+#include <link.h>
 #include <malloc.h>
 #include <pthread.h>
 #include <stdint.h>
@@ -8,6 +9,8 @@
 #include <stdlib.h>
 #include <string.h>
 #include <sys/mman.h>
+#include <sys/resource.h>
+#include <ucontext.h>
 #include <unistd.h>
 
 #define MUST(condition)                                                         \
@@ -42,6 +45,16 @@ static void freed(void)
     pthread_mutex_lock(&node->lock);   /* @freed_second */
     pthread_mutex_unlock(&node->lock); /* @freed_second_end */
     pthread_mutex_unlock(&b);          /* @freed_second_b_end */
+}
+
+/* Memory is given back with a lock in it that is held: nobody holds it any more. */
+static void freed_held(void)
+{
+    struct node *node = calloc(1, sizeof *node);
+    pthread_mutex_lock(&node->lock); /* @held */
+    free(node);
+    pthread_mutex_lock(&b);   /* @held_b */
+    pthread_mutex_unlock(&b); /* @held_b_end */
 }
 
 static void use(pthread_mutex_t *lock)
@@ -111,6 +124,119 @@ static void stacks(void)
     }
 }
 
+static uintptr_t lent_place;
+
+static void *uses_lent(void *lock)
+{
+    use(lock);
+    return NULL;
+}
+
+static void *lends(void *unused)
+{
+    pthread_mutex_t lock = PTHREAD_MUTEX_INITIALIZER;
+    pthread_t thread;
+    MUST(lent_place == 0 || lent_place == (uintptr_t)&lock);
+    lent_place = (uintptr_t)&lock;
+    pthread_create(&thread, NULL, uses_lent, &lock); /* @lent_fork */
+    pthread_join(thread, NULL);                      /* @lent_join */
+    return unused;
+}
+
+/* A lock on a thread's stack is used by a thread of its own alone; the second one's lies where the first one's was. */
+static void lent(void)
+{
+    for (int i = 0; i < 2; i++) {
+        pthread_t thread;
+        pthread_create(&thread, NULL, lends, NULL); /* @lends_fork */
+        pthread_join(thread, NULL);                 /* @lends_join */
+    }
+}
+
+static __thread pthread_mutex_t own_lock = PTHREAD_MUTEX_INITIALIZER;
+static uintptr_t own_place;
+
+static void *uses_own(void *unused)
+{
+    MUST(own_place == 0 || own_place == (uintptr_t)&own_lock);
+    own_place = (uintptr_t)&own_lock;
+    pthread_mutex_lock(&own_lock);   /* @own */
+    pthread_mutex_unlock(&own_lock); /* @own_end */
+    return unused;
+}
+
+/* The second thread's thread-local lock lies where the first one's was. */
+static void owns(void)
+{
+    for (int i = 0; i < 2; i++) {
+        pthread_t thread;
+        pthread_create(&thread, NULL, uses_own, NULL); /* @own_fork */
+        pthread_join(thread, NULL);                    /* @own_join */
+    }
+}
+
+static char *other_stack;
+static struct node *above;
+static ucontext_t thread_context, other_context;
+
+static void uses_above(void)
+{
+    use(&above->lock);
+}
+
+static void *goes_elsewhere(void *unused)
+{
+    getcontext(&other_context);
+    other_context.uc_stack.ss_sp = other_stack;
+    other_context.uc_stack.ss_size = 1 << 16;
+    other_context.uc_link = &thread_context;
+    makecontext(&other_context, uses_above, 0);
+    swapcontext(&thread_context, &other_context);
+    return unused;
+}
+
+/* A thread that runs on a stack from the heap comes upon a lock that lies above: this is on no stack, and stays. */
+static void elsewhere(void)
+{
+    other_stack = malloc(1 << 16);
+    above = calloc(1, sizeof *above);
+    MUST((uintptr_t)above > (uintptr_t)other_stack);
+    pthread_t thread;
+    pthread_create(&thread, NULL, goes_elsewhere, NULL); /* @elsewhere_fork */
+    pthread_join(thread, NULL);                          /* @elsewhere_join */
+    use(&above->lock);
+}
+
+struct job {
+    pthread_t handle;
+    char room[1 << 18];
+};
+
+static int jobs_done;
+
+static void *gives_job_back(void *job)
+{
+    munmap(job, sizeof(struct job));
+    __atomic_fetch_add(&jobs_done, 1, __ATOMIC_RELEASE);
+    return NULL;
+}
+
+/* Threads that give back the memory in which their handles are, as soon as they run. */
+static void handles(void)
+{
+    pthread_attr_t detached;
+    pthread_attr_init(&detached);
+    pthread_attr_setdetachstate(&detached, PTHREAD_CREATE_DETACHED);
+    for (int i = 0; i < 1000; i++) {
+        struct job *job = mmap(NULL, sizeof *job, PROT_READ | PROT_WRITE, MAP_PRIVATE | MAP_ANONYMOUS, -1, 0);
+        MUST(pthread_create(&job->handle, &detached, gives_job_back, job) == 0);
+        while (__atomic_load_n(&jobs_done, __ATOMIC_ACQUIRE) < i - 4)
+            usleep(100);
+    }
+    while (__atomic_load_n(&jobs_done, __ATOMIC_ACQUIRE) < 1000)
+        usleep(100);
+}
+
 /* Two libraries, one after the other at the same place. */
 static void plugins(void)
 {
@@ -127,12 +253,68 @@ static void plugins(void)
     }
 }
 
+/* The same, of libraries whose locks are used by others alone. */
+static void lockers(void)
+{
+    static const char *const names[] = {"./locker-one.so", "./locker-two.so"};
+    for (int i = 0; i < 2; i++) {
+        void *library = dlopen(names[i], RTLD_NOW);
+        MUST(library != NULL);
+        pthread_mutex_t *lock = dlsym(library, i == 0 ? "lock_of_one" : "lock_of_two");
+        static pthread_mutex_t *place;
+        MUST(lock != NULL && (place == NULL || place == lock));
+        place = lock;
+        use(lock);
+        MUST(dlclose(library) == 0);
+    }
+}
+
+static int visits_stop;
+
+static int visit(struct dl_phdr_info *info, size_t size, void *unused)
+{
+    (void)info, (void)size, (void)unused;
+    struct node *node = calloc(1, sizeof *node);
+    use(&node->lock);
+    free(node);
+    return 0;
+}
+
+static void *visits_libraries(void *unused)
+{
+    while (!__atomic_load_n(&visits_stop, __ATOMIC_ACQUIRE)) {
+        dl_iterate_phdr(visit, NULL);
+        usleep(100); /* lets the other one in */
+    }
+    return unused;
+}
+
+/* While one thread unloads libraries another one goes through all that there are, and takes a new lock at each. */
+static void visits(void)
+{
+    struct rlimit limit = {10, 10}; /* seconds of a processor: then it hangs */
+    pthread_t thread;
+    setrlimit(RLIMIT_CPU, &limit);
+    MUST(pthread_create(&thread, NULL, visits_libraries, NULL) == 0);
+    for (int i = 0; i < 500; i++) {
+        void *library = dlopen("./plugin-one.so", RTLD_NOW);
+        MUST(library != NULL);
+        ((void (*)(void))(uintptr_t)dlsym(library, "run"))();
+        MUST(dlclose(library) == 0);
+    }
+    __atomic_store_n(&visits_stop, 1, __ATOMIC_RELEASE);
+    pthread_join(thread, NULL);
+}
+
 int main(int count, char **arguments)
 {
     static const struct {
         const char *name;
         void (*run)(void);
-    } programs[] = {{"freed", freed}, {"moved", moved}, {"unmapped", unmapped}, {"stacks", stacks}, {"plugins", plugins}};
+    } programs[] = {
+        {"freed", freed},         {"freed_held", freed_held}, {"moved", moved},         {"unmapped", unmapped}, {"stacks", stacks},   {"lent", lent},     {"owns", owns},
+        {"elsewhere", elsewhere}, {"handles", handles}, {"plugins", plugins}, {"lockers", lockers}, {"visits", visits},
+    };
     for (size_t i = 0; count > 1 && i < sizeof programs / sizeof programs[0]; i++)
         if (strcmp(programs[i].name, arguments[1]) == 0) {
             programs[i].run();

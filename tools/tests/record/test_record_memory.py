@@ -1,6 +1,6 @@
 """Memory that is given back: a lock in it is at its end, and the next one there is another."""
 
-from c_traces import expect
+from c_traces import expect, record
 
 
 def test_lock_in_freed_memory_is_at_its_end():
@@ -15,6 +15,18 @@ def test_lock_in_freed_memory_is_at_its_end():
         main|acq(mutex@@freed_second#1)|@freed_second
         main|rel(mutex@@freed_second#1)|@freed_second_end
         main|rel(b)|@freed_second_b_end""",
+        "memory.c",
+    )
+
+
+def test_lock_that_is_held_in_freed_memory():
+    expect(
+        "freed_held",
+        """
+        main|acq(mutex@@held#1)|@held
+        main|rel(mutex@@held#1)|@held
+        main|acq(b)|@held_b
+        main|rel(b)|@held_b_end""",
         "memory.c",
     )
 
@@ -42,6 +54,36 @@ def test_lock_on_the_stack_of_a_thread_that_ended():
     expect("stacks", "\n".join(text), "memory.c")
 
 
+def test_lock_on_the_stack_of_a_thread_that_another_one_used():
+    text = ["main|fork(main.%d:lends)|@lends_fork\nmain|join(main.%d:lends)|@lends_join" % (i, i) for i in (1, 2)]
+    for i in (1, 2):
+        text.append("main.%d:lends|fork(main.%d.1:uses_lent)|@lent_fork" % (i, i))
+        text.append("main.%d:lends|join(main.%d.1:uses_lent)|@lent_join" % (i, i))
+        text.append("main.%d.1:uses_lent|acq(mutex@@use#main.%d.1:1)|@use" % (i, i))
+        text.append("main.%d.1:uses_lent|rel(mutex@@use#main.%d.1:1)|@use_end" % (i, i))
+    expect("lent", "\n".join(text), "memory.c")
+
+
+def test_thread_local_lock_of_a_thread_that_ended():
+    text = ["main|fork(main.%d:uses_own)|@own_fork\nmain|join(main.%d:uses_own)|@own_join" % (i, i) for i in (1, 2)]
+    for i in (1, 2):
+        text.append("main.%d:uses_own|acq(mutex@@own#main.%d:1)|@own" % (i, i))
+        text.append("main.%d:uses_own|rel(mutex@@own#main.%d:1)|@own_end" % (i, i))
+    expect("owns", "\n".join(text), "memory.c")
+
+
+def test_lock_that_a_thread_came_upon_while_it_ran_on_another_stack():
+    forked = "main|fork(main.1:goes_elsewhere)|@elsewhere_fork\nmain|join(main.1:goes_elsewhere)|@elsewhere_join\n"
+    thread = "\nmain.1:goes_elsewhere|acq(mutex@@use#1)|@use\nmain.1:goes_elsewhere|rel(mutex@@use#1)|@use_end"
+    expect("elsewhere", forked + uses(1) + thread, "memory.c")
+
+
+def test_thread_that_gives_its_handle_back():
+    """The memory may be gone before the call that made the thread has come back."""
+    run = record("./memory", "handles")
+    assert run.status == 0 and "1001 threads" in run.said, "status %d: %s" % (run.status, run.said)
+
+
 def test_library_in_the_place_of_another():
     expect(
         "plugins",
@@ -52,3 +94,21 @@ def test_library_in_the_place_of_another():
         main|rel(lock_of_two)|plugin.c:200""",
         "memory.c",
     )
+
+
+def test_library_without_code_in_the_place_of_another():
+    expect(
+        "lockers",
+        """
+        main|acq(lock_of_one)|@use
+        main|rel(lock_of_one)|@use_end
+        main|acq(lock_of_two)|@use
+        main|rel(lock_of_two)|@use_end""",
+        "memory.c",
+    )
+
+
+def test_libraries_that_are_visited_while_others_are_unloaded():
+    """The visitor takes new locks while it keeps the list of libraries from being changed. The program goes on."""
+    run = record("./memory", "visits")
+    assert run.status == 0, "status %d: %s" % (run.status, run.said)

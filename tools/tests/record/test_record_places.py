@@ -1,10 +1,12 @@
 """What stands for the place of a call: its line and its callers', or its address."""
 
+import os
 import re
 import signal
 import subprocess
 
-from c_traces import known, record
+from c_programs import Run
+from c_traces import PAIR, known, record
 from known_traces import compare
 
 
@@ -59,3 +61,16 @@ def test_without_debug_information():
     assert len(ends) > 10, "objdump shows no calls"
     for place in places:
         assert int(place.group(2), 16) + 1 in ends, "%s is no place of a call" % place.group(2)
+
+
+def test_files_whose_names_are_no_text():
+    """The program's, and those of the recording and the trace: lines are found, and nothing is lost."""
+    folder, program = os.fsdecode(b"caf\xe9"), os.fsdecode(b"./locks \xff")
+    os.link("locks", program)
+    os.mkdir(folder)
+    traced = Run([program, "leaves_at_once"], trace=os.path.join(folder, "t.std"))
+    assert traced.status == 5, traced.said
+    compare(traced.lines(), known(PAIR))
+    live = Run([program, "leaves_at_once"], ["--live"], trace=os.path.join(folder, "r.txt"))
+    assert live.status == 5, live.said
+    assert live.lines() == ["cycles: 0"], live.said

@@ -302,3 +302,8 @@ def test_program_that_gives_up_root(open_folder):
     assert run.status == 0 and "lost" not in run.said, run.said
     assert len(run.lines()) >= 2 + 4 * 224 * 224, "%d lines" % len(run.lines())
     assert run.files() == ["t.std"] and raw_directories() == [], str(os.listdir("."))
+
+
+def test_threads_that_fork_at_once():
+    run = record("./forking")
+    assert run.out == "0 parents and 0 children with others' signals\n", run.out

@@ -2,6 +2,7 @@
 
 import re
 
+import pytest
 from c_traces import expect, known, record
 from known_traces import compare
 
@@ -139,3 +140,16 @@ def test_signals_at_any_instruction():
     assert not held, "held at the end: %s" % held
     assert {re.search(r"\((\w+)\)", line).group(1) for line in lines} == {"b", "a", "many"}, "not all locks are there"
     assert len(lines) < 100, "%d lines" % len(lines)
+
+
+@pytest.mark.parametrize("frames", [1, 16])
+def test_thread_with_the_smallest_stack(frames):
+    """The recorder takes no more of it than the program's own calls do."""
+    run = record("./thousands", options=["--frames", "%d" % frames])
+    assert run.status == 0 and " 30001 locks" in run.said, "status %d: %s" % (run.status, run.said)
+
+
+def test_thread_that_is_to_be_cancelled():
+    """It isn't in the calls of the recorder, as the program's own are none at which that may happen."""
+    run = record("./thousands", "cancelled")
+    assert run.status == 0 and run.out == "30000 taken\n", "status %d: %s%s" % (run.status, run.out, run.said)

@@ -23,3 +23,7 @@ def test_moved_onto_another():
 
 def test_made_smaller():
     locks("smaller", 3)
+
+
+def test_segment_in_the_place_of_another():
+    locks("attached", 2)

@@ -43,7 +43,7 @@ def built(tmp_path_factory):
     compile_program(folder, "go-dynamic", GO)
     compile_program(folder, "rust", RUST)
     compile_program(folder, "embeds-python", PYTHON, "-rdynamic")
-    for library in ("libjvm", "libpython3.11"):
+    for library in ("libjvm", "libpython3.11", "libgomp", "libomp", "libglib-2.0"):
         compile_program(folder, library + ".so", "", "-shared", "-fPIC", name="runtime")
         with open(folder / "uses.c", "w") as file:
             file.write("int runtime(void); int main(void) { return runtime(); }\n")

@@ -36,3 +36,14 @@ def test_go():
 def test_rust():
     said = said_of("rust")
     assert "has Rust code: std::sync::Mutex and RwLock don't pass the C library" in said, said
+
+
+def test_openmp():
+    for program in ("uses-libgomp", "uses-libomp"):
+        said = said_of(program)
+        assert "has OpenMP: its locks and critical sections" in said, said
+
+
+def test_glib():
+    said = said_of("uses-libglib-2.0")
+    assert "has GLib: GMutex" in said, said
