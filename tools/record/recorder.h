@@ -13,6 +13,7 @@
 #include <pthread.h>
 #include <stddef.h>
 #include <stdint.h>
+#include <string.h>
 
 #include "layout.h"
 
@@ -188,8 +189,13 @@ struct thread {
     uint64_t *keys;      /* the known acquires of this segment, see key_of */
     uint32_t key_mask, key_count;
     uint32_t changing; /* a table of this thread's is being changed: a signal handler leaves it alone */
-    uint32_t held_count;
-    uint32_t inside; /* how many changes of words and held locks are at work: more than one in a signal handler */
+    uint32_t inside;   /* how many changes of words and held locks are at work: more than one in a signal handler */
+    union {
+        struct {
+            uint32_t held_count, held_adds; /* how many locks are held, and how often one was added */
+        };
+        uint64_t held_now; /* both of them */
+    };
     uint32_t renews; /* a segment ended amid a change, see segment_end */
     struct thread_record *record;
     uint32_t number;
@@ -230,8 +236,8 @@ static inline struct thread *recording_thread(void)
 
 /* --- Words of events ------------------------------------------------------------------------------------ */
 
-/* `used` of a chunk is changed by its thread alone, but a signal handler may come between any two
- * instructions. These two are one instruction each. */
+/* `used` of a chunk, and how much a thread holds, are changed by the thread alone, but a signal handler may come
+ * between any two instructions. These two are one instruction each. */
 static inline uint64_t used_take(uint64_t *used)
 {
 #ifdef __x86_64__
@@ -244,13 +250,13 @@ static inline uint64_t used_take(uint64_t *used)
 }
 
 /* Whether it was `from`, and is `to` now. */
-static inline int used_set_back(uint64_t *used, uint64_t from, uint64_t to)
+static inline int is_set(uint64_t *value, uint64_t from, uint64_t to)
 {
     uint64_t found = from;
 #ifdef __x86_64__
-    __asm__ volatile("cmpxchgq %2, %1" : "+a"(found), "+m"(*used) : "r"(to) : "memory", "cc");
+    __asm__ volatile("cmpxchgq %2, %1" : "+a"(found), "+m"(*value) : "r"(to) : "memory", "cc");
 #else
-    __atomic_compare_exchange_n(used, &found, to, 0, __ATOMIC_RELAXED, __ATOMIC_RELAXED);
+    __atomic_compare_exchange_n(value, &found, to, 0, __ATOMIC_RELAXED, __ATOMIC_RELAXED);
 #endif
     return found == from;
 }
@@ -289,7 +295,7 @@ static inline int word_take_back(struct thread *thread, uint64_t *place)
     if (place < chunk->words || place >= chunk->words + chunk_room(chunk))
         return 0;
     uint64_t index = (uint64_t)(place - chunk->words);
-    return used_set_back(&chunk->used, index + 1, index);
+    return is_set(&chunk->used, index + 1, index);
 }
 
 /* The words that a thread's chunk has at a moment. */
@@ -326,7 +332,7 @@ static inline void words_leave_out(struct thread *thread, struct stored stored, 
     if (unlikely(stored.used - first > 1))
         words_zero_further(stored, first);
     *(volatile uint64_t *)start = 0;
-    used_set_back(&stored.chunk->used, stored.used, first);
+    is_set(&stored.chunk->used, stored.used, first);
     thread->record->left_out += stored.used - first;
 }
 
@@ -573,21 +579,23 @@ static inline int is_shared(uint64_t word)
 /* Acquires of a lock that is held already, or where too many are held. */
 uint64_t *acquire_write_further(struct thread *thread, uint64_t word, struct held *held, int plain);
 
-/* Adds a held lock. A signal handler that comes before the count is raised puts a lock of its own there: another one,
- * or the same one, which it may leave there with no depth. */
-static inline void held_add(struct thread *thread, uint32_t count, uint64_t word, uint64_t context)
+/* These as one word, as they lie in memory. */
+static inline uint64_t held_now_of(uint32_t count, uint32_t adds)
 {
-    struct held *held = &thread->held[count];
-    do {
-        held->word = word;
-        __atomic_signal_fence(__ATOMIC_SEQ_CST);
-        held->identity = word;
-        held->context = context;
-        held->depth = 1;
-        __atomic_signal_fence(__ATOMIC_SEQ_CST);
-        thread->held_count = count + 1;
-        __atomic_signal_fence(__ATOMIC_SEQ_CST);
-    } while (unlikely(held->word != word || held->depth != 1));
+    const uint32_t both[] = {count, adds};
+    uint64_t now;
+    memcpy(&now, both, sizeof now);
+    return now;
+}
+
+/* Adds a held lock behind so many, unless a signal handler has put a lock of its own there meanwhile; whether it is
+ * added. That lock is over when the handler ends, but counts as added: so the next handler never finds it there. */
+static inline int held_add(struct thread *thread, uint32_t count, uint64_t word, uint64_t context)
+{
+    uint32_t adds = __atomic_load_n(&thread->held_adds, __ATOMIC_RELAXED);
+    __atomic_signal_fence(__ATOMIC_SEQ_CST);
+    thread->held[count] = (struct held){word, word, context, 1};
+    return is_set(&thread->held_now, held_now_of(count, adds), held_now_of(count + 1, adds + 1));
 }
 
 /* Writes an acquire; gives its place. `call` has site and lock, `kind` is one of the four acquires; `plain`: a thread
@@ -596,17 +604,19 @@ static inline void held_add(struct thread *thread, uint32_t count, uint64_t word
 static inline __attribute__((always_inline)) uint64_t *acquire_add(struct thread *thread, enum event_kind kind,
                                                                    uint64_t call, int plain)
 {
-    uint64_t word = call | kind;
-    uint64_t context = 0;
-    uint32_t count = thread->held_count;
-    if (count > 0) {
-        struct held *held = held_find(thread, word_object(word));
-        if (unlikely(held != NULL || count == HELD_LIMIT))
-            return acquire_write_further(thread, word, held, plain);
-        context = thread->held[count - 1].context;
-    }
-    context = key_of(context, word);
-    held_add(thread, count, word, context);
+    uint64_t word = call | kind, context;
+    uint32_t count;
+    do {
+        count = __atomic_load_n(&thread->held_count, __ATOMIC_RELAXED);
+        context = 0;
+        if (count > 0) {
+            struct held *held = held_find(thread, word_object(word));
+            if (unlikely(held != NULL || count == HELD_LIMIT))
+                return acquire_write_further(thread, word, held, plain);
+            context = thread->held[count - 1].context;
+        }
+        context = key_of(context, word);
+    } while (unlikely(!held_add(thread, count, word, context)));
     thread->levels[count] = (struct level){NULL, thread->news, 0};
     if (key_is_news(thread, context))
         news_add(thread);

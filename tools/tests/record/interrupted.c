@@ -8,7 +8,7 @@
  * the signal came. That is after STRIDE more instructions in each, until the stretch is over or LAST is reached; in the
  * first one there is none. FILL: before, so many words of events are written that stay, so that the chunk runs full
  * meanwhile. FURTHER: so many instructions after the signal another one comes, which may interrupt its handler; -1:
- * none does. */
+ * none does; -2, -3 and so on: it comes so many less two after the handler of the first one has come back. */
 #define _GNU_SOURCE
 #include <pthread.h>
 #include <signal.h>
@@ -16,6 +16,7 @@
 #include <stdlib.h>
 #include <string.h>
 #include <sys/ptrace.h>
+#include <sys/user.h>
 #include <sys/wait.h>
 #include <unistd.h>
 
@@ -332,6 +333,21 @@ static int steps(pid_t thread, int signal, long count)
     return 1;
 }
 
+/* Hands a signal to the thread and lets its handler come back, and so many instructions more; whether it did no more
+ * before the mark. */
+static int steps_back(pid_t thread, int signal, long count)
+{
+    struct user_regs_struct before, now;
+    ptrace(PTRACE_GETREGS, thread, 0, &before);
+    do {
+        if (!steps(thread, signal, 1))
+            return 0;
+        signal = 0;
+        ptrace(PTRACE_GETREGS, thread, 0, &now);
+    } while (now.rip != before.rip || now.rsp != before.rsp);
+    return steps(thread, 0, count);
+}
+
 /* From the mark at the stretch's begin to the one at its end. */
 static void stretch_follow(pid_t thread)
 {
@@ -341,8 +357,8 @@ static void stretch_follow(pid_t thread)
         ptrace(PTRACE_POKEDATA, thread, &over, 1);
         return;
     }
-    if (number && after >= 0) {
-        if (!steps(thread, number, after + 1))
+    if (number && after != -1) {
+        if (!(after >= 0 ? steps(thread, number, after + 1) : steps_back(thread, number, -2 - after)))
             return;
         number = SIGALRM;
     }

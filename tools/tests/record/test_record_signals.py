@@ -87,6 +87,18 @@ def test_two_signals(further):
     check("walk_on", WALK, 492, further, 13, LAST, least=20)
 
 
+@pytest.mark.parametrize("further", (-3, -5, -7))
+def test_a_signal_right_after_another_one(further):
+    """The first one comes amid an acquire, and puts a lock of its own where that lock will be; the second one doesn't find it held
+    there, so few instructions later."""
+    threads = threads_of("walk", ALONE, 0, further, 1, 160)
+    assert len(threads) >= 150, "only %d threads were interrupted, or are in the trace" % len(threads)
+    (whole,) = threads_of("walk", ALONE, 0, further, 1, -1, options=["--all"])
+    for place, lines in enumerate(threads):
+        is_front_of_a_run(lines)
+        assert edges_of(lines) == edges_of(whole), "%d instructions after the mark, the edges differ" % (place - 1)
+
+
 def check_makes(stretch, stride, count, places):
     """A handler makes and joins a thread, at one place after the other amid a stretch, which comes once more afterwards. This ends a segment, in
     which nothing is known: so the edges are those of a handler that came at one of these places among the `count` lines of all. The
