@@ -9,7 +9,7 @@ import tempfile
 import pytest
 from c_programs import end, has_ended, raw_directories, raw_directory
 from c_traces import PAIR, convert, known, record
-from known_traces import LIMIT, RECORD, REFUSED, compare, read_line, read_lines, start, wait_for
+from known_traces import LIMIT, NO_EVENTS, RECORD, REFUSED, compare, read_line, read_lines, start, wait_for
 
 
 def test_forked_process():
@@ -125,6 +125,16 @@ def test_program_that_becomes_another():
     assert run.files() == ["t.std", "t.std.%s.1" % process], str(run.files())
     compare(run.lines(), known(PAIR))
     assert len(run.lines(".%s.1" % process)) == 8, str(run.lines(".%s.1" % process))
+    assert "became" not in run.said, run.said
+
+
+@pytest.mark.parametrize("options", [(), ("--live",)])
+@pytest.mark.parametrize("words", [("sh", "-c", "exec ./locks-static table"), ("env", "-i", "./locks", "table")])
+def test_program_that_becomes_one_that_cannot_be_recorded(words, options):
+    run = record(*words, options=options)
+    assert run.status == NO_EVENTS, "%d: %s" % (run.status, run.said)
+    assert "(%s) became a program that wasn't recorded: " % " ".join(words) in run.said, run.said
+    assert "the program became one that wasn't recorded (" in run.said, run.said
 
 
 def test_children_of_a_shell():
