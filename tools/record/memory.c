@@ -222,8 +222,9 @@ struct left {
 static size_t range_count(uintptr_t start, uintptr_t end)
 {
     size_t count = 0;
-    FOR_PAGES(start, end, for (size_t word = 0; word < PAGE_WORDS; word++) count +=
-                          (size_t)__builtin_popcountll(places_within(page, word, start, end)))
+    FOR_PAGES(start, end,
+              for (size_t word = 0; word < PAGE_WORDS; word++) count +=
+              (size_t)__builtin_popcountll(places_within(page, word, start, end)))
     return count;
 }
 

@@ -188,8 +188,8 @@ static uint64_t extent_bytes(uint64_t number)
     return bytes;
 }
 
-/* Maps the file with room for so many bytes, or for as many as the disk has, and as the process may map, but no fewer than
- * the least. */
+/* Maps the file with room for so many bytes, or for as many as the disk has, and as the process may map, but no fewer
+ * than the least. */
 static void *file_fit(int file, uint64_t *bytes, uint64_t least)
 {
     errno = ENOSPC; /* where the limit of a file's size leaves too little */
@@ -580,6 +580,7 @@ int process_ready(void)
         if (!real_find())
             return 0;
         in_slow_part = 1;
+        program_find();
         unwinder_start();
         process_start(NULL);
         fork_handlers_set();

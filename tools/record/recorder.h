@@ -648,8 +648,8 @@ static inline __attribute__((always_inline)) void release_write(struct thread *t
     change_end(thread, outside);
 }
 
-/* What ends while the thread holds it is held no longer, as nobody will wait for it any more: the lock of this number, or
- * the one at this address, which another one follows. */
+/* What ends while the thread holds it is held no longer, as nobody will wait for it any more: the lock of this number,
+ * or the one at this address, which another one follows. */
 void held_let_go(struct thread *thread, uint32_t lock);
 void lock_let_go(struct thread *thread, const void *address);
 

@@ -13,6 +13,7 @@
 #include <link.h>
 #include <stdio.h>
 #include <string.h>
+#include <sys/auxv.h>
 #include <sys/mman.h>
 #include <sys/stat.h>
 #include <unistd.h>
@@ -232,6 +233,21 @@ static int module_describe(const struct module *module)
     return 1;
 }
 
+static char program_path[1024];
+
+void program_find(void)
+{
+    const char *path = (const char *)getauxval(AT_EXECFN);
+    if (program_path[0] || !path)
+        return;
+    size_t length = 0;
+    if (path[0] != '/' && getcwd(program_path, sizeof program_path / 2)) {
+        length = strlen(program_path);
+        program_path[length++] = '/';
+    }
+    snprintf(program_path + length, sizeof program_path - length, "%s", path);
+}
+
 static void module_add(struct dl_phdr_info *info, uintptr_t start, uintptr_t end, uint64_t look)
 {
     struct module *module = pages_new(sizeof *module);
@@ -242,17 +258,16 @@ static void module_add(struct dl_phdr_info *info, uintptr_t start, uintptr_t end
     module->end = end;
     static const char program[] = "/proc/self/exe"; /* is there also where the file was deleted */
     int is_program = !info->dlpi_name || !info->dlpi_name[0];
-    if (!is_program) {
-        snprintf(module->path, sizeof module->path, "%s", info->dlpi_name);
-    } else {
-        ssize_t length = readlink(program, module->path, sizeof module->path - 1);
-        module->path[length > 0 ? length : 0] = 0;
-    }
+    ssize_t length = is_program ? readlink(program, module->path, sizeof module->path - 1) : 0;
+    if (length > 0)
+        module->path[length] = 0;
+    else
+        snprintf(module->path, sizeof module->path, "%s", is_program ? program_path : info->dlpi_name);
     const char *base = strrchr(module->path, '/');
     base = base ? base + 1 : module->path;
     module->all_wrappers = strncmp(base, "libstdc++.so", 12) == 0 || strncmp(base, "libc++.so", 9) == 0;
     if (!module->all_wrappers)
-        module_find_wrappers(module, is_program ? program : module->path);
+        module_find_wrappers(module, length > 0 ? program : module->path);
     module->seen = look;
     modules[module_count] = module;
     __atomic_store_n(&module_count, module_count + 1, __ATOMIC_RELEASE);
@@ -305,6 +320,12 @@ static uint64_t modules_look(void)
     dl_iterate_phdr(module_visit, &look);
     visit_end(&signals);
     return look;
+}
+
+void modules_meet(void)
+{
+    if (!slow_inside() && process_ready())
+        modules_look();
 }
 
 /* What lies nowhere in a module, as in the heap, is found out without a visit by the C library of 2022 and later. Of an

@@ -871,6 +871,13 @@ static void forks_in_handler(void)
 
 static char *program;
 
+/* Before its first lock: the program's file is out of reach then. */
+static void changes_root(void)
+{
+    MUST(mkdir("root", 0700) == 0 && chroot("root") == 0);
+    one_pair();
+}
+
 static void executes(void)
 {
     one_pair();
@@ -1043,7 +1050,7 @@ static const struct {
     {"no_threads_amid_many", no_threads_amid_many},
     {"repeats", repeats}, {"volume", volume}, {"volume_and_wait", volume_and_wait}, {"volume_and_thread", volume_and_thread},
     {"confined", confined}, {"no_files", no_files}, {"many_threads", many_threads}, {"forks", forks},
-    {"parent_goes_on", parent_goes_on}, {"raw_fork", raw_fork}, {"forks_in_handler", forks_in_handler}, {"executes", executes}, {"clears_environment", clears_environment},
+    {"parent_goes_on", parent_goes_on}, {"raw_fork", raw_fork}, {"forks_in_handler", forks_in_handler}, {"changes_root", changes_root}, {"executes", executes}, {"clears_environment", clears_environment},
     {"goes_to_background", goes_to_background}, {"waits_for_signal", waits_for_signal}, {"frames", frames}, {"frames_vary", frames_vary},
     {"table", table}, {"nothing", nothing},
 };

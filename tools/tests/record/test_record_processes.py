@@ -255,6 +255,17 @@ def test_process_in_the_background_without_proc(options):
     done = subprocess.run(words + command, stdin=subprocess.DEVNULL, stderr=subprocess.PIPE, timeout=LIMIT)
     assert done.returncode == 0, "%d: %s" % (done.returncode, done.stderr.decode())
     assert b", which runs on\n" in done.stderr and b": 2 events" in done.stderr, done.stderr.decode()
+    if not options:
+        (written,) = (name for name in os.listdir(".") if name.startswith("t.std"))
+        compare(read_lines(written), known("main|acq(many+0x78)|@table\nmain|rel(many+0x78)|@table_end"))
+
+
+def test_program_that_changes_its_root():
+    if os.geteuid() != 0:
+        pytest.skip("not root")
+    run = record("./locks", "changes_root")
+    assert run.status == 0, "%d: %s" % (run.status, run.said)
+    compare(run.lines(), known(PAIR))
 
 
 @pytest.fixture
