@@ -12,6 +12,7 @@
 #include <fcntl.h>
 #include <link.h>
 #include <stdio.h>
+#include <stdlib.h>
 #include <string.h>
 #include <sys/auxv.h>
 #include <sys/mman.h>
@@ -248,6 +249,44 @@ void program_find(void)
     snprintf(program_path + length, sizeof program_path - length, "%s", path);
 }
 
+/* The path that stands in this line of /proc/self/maps, if it is of what is mapped at this address. */
+static const char *path_in_line(const char *line, uintptr_t start)
+{
+    return strtoull(line, NULL, 16) == start ? strchr(line, '/') : NULL;
+}
+
+/* The whole path of what is mapped at this address; whether it could be told. Called in slow parts alone. */
+static int path_mapped(uintptr_t start, char *path, size_t size)
+{
+    static char text[2 * 4096 + 256]; /* not on the stack, of which a thread may have little */
+    int file = open("/proc/self/maps", O_RDONLY | O_CLOEXEC);
+    const char *found = NULL;
+    size_t kept = 0;
+    ssize_t length;
+    while (file >= 0 && !found && (length = read(file, text + kept, sizeof text - 1 - kept)) > 0) {
+        char *line = text, *end;
+        text[kept + (size_t)length] = 0;
+        for (; !found && (end = strchr(line, '\n')) != NULL; line = end + 1) {
+            *end = 0;
+            found = path_in_line(line, start);
+        }
+        if (found)
+            snprintf(path, size, "%s", found);
+        kept = strlen(line);
+        memmove(text, line, kept);
+    }
+    if (file >= 0)
+        close(file);
+    return found != NULL;
+}
+
+/* What the loader was given may be relative to a folder in which the process, or who reads this, isn't any more. */
+static void library_path(struct module *module, const char *name)
+{
+    if (name[0] == '/' || !strchr(name, '/') || !path_mapped(module->start, module->path, sizeof module->path))
+        snprintf(module->path, sizeof module->path, "%s", name);
+}
+
 static void module_add(struct dl_phdr_info *info, uintptr_t start, uintptr_t end, uint64_t look)
 {
     struct module *module = pages_new(sizeof *module);
@@ -262,7 +301,7 @@ static void module_add(struct dl_phdr_info *info, uintptr_t start, uintptr_t end
     if (length > 0)
         module->path[length] = 0;
     else
-        snprintf(module->path, sizeof module->path, "%s", is_program ? program_path : info->dlpi_name);
+        library_path(module, is_program ? program_path : info->dlpi_name);
     const char *base = strrchr(module->path, '/');
     base = base ? base + 1 : module->path;
     module->all_wrappers = strncmp(base, "libstdc++.so", 12) == 0 || strncmp(base, "libc++.so", 9) == 0;

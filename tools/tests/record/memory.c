@@ -373,6 +373,16 @@ static void lockers(void)
     }
 }
 
+/* A library whose path is relative to where the process isn't any more. */
+static void wanders(void)
+{
+    MUST(chdir("..") == 0);
+    char *path = getenv("PLUGIN");
+    void *library = dlopen(path, RTLD_NOW);
+    MUST(library != NULL && chdir("/") == 0);
+    ((void (*)(void))(uintptr_t)dlsym(library, "run"))();
+}
+
 static int visits_stop;
 
 static int visit(struct dl_phdr_info *info, size_t size, void *unused)
@@ -417,7 +427,7 @@ int main(int count, char **arguments)
         void (*run)(void);
     } programs[] = {
         {"freed", freed},         {"freed_held", freed_held}, {"moved", moved},         {"unmapped", unmapped}, {"stacks", stacks},   {"keepers", keepers}, {"lent", lent},     {"owns", owns},
-        {"failing", failing}, {"detached_twice", detached_twice}, {"taken_early", taken_early}, {"remade", remade}, {"elsewhere", elsewhere}, {"handles", handles}, {"plugins", plugins}, {"lockers", lockers}, {"visits", visits},
+        {"failing", failing}, {"detached_twice", detached_twice}, {"taken_early", taken_early}, {"remade", remade}, {"elsewhere", elsewhere}, {"handles", handles}, {"plugins", plugins}, {"lockers", lockers}, {"wanders", wanders}, {"visits", visits},
     };
     for (size_t i = 0; count > 1 && i < sizeof programs / sizeof programs[0]; i++)
         if (strcmp(programs[i].name, arguments[1]) == 0) {

@@ -145,6 +145,13 @@ def test_library_in_the_place_of_another():
     )
 
 
+def test_library_of_a_relative_path():
+    plugin = os.path.join(".", os.path.basename(os.getcwd()), "plugin-one.so")
+    run = record("./memory", "wanders", environment={**os.environ, "PLUGIN": plugin})
+    assert run.status == 0, "status %d: %s" % (run.status, run.said)
+    compare(run.lines(), ["main|acq(lock_of_one)|plugin.c:100", "main|rel(lock_of_one)|plugin.c:100"])
+
+
 def test_library_without_code_in_the_place_of_another():
     expect(
         "lockers",
