@@ -4,7 +4,7 @@ import os
 import signal
 import time
 
-from recording import maps_file
+from recording import maps_file, names_in_proc
 
 PR_SET_CHILD_SUBREAPER = 36
 FORWARDED = (signal.SIGINT, signal.SIGTERM, signal.SIGHUP, signal.SIGQUIT, signal.SIGUSR1, signal.SIGUSR2)
@@ -24,6 +24,23 @@ def adopt_orphans():
 
         return ctypes.CDLL(None).prctl(PR_SET_CHILD_SUBREAPER, 1, 0, 0, 0) == 0
     except (ImportError, OSError, AttributeError):
+        return False
+
+
+def has_children():
+    """Whether this process has any, also of those that have ended."""
+    try:
+        os.waitid(os.P_ALL, 0, os.WEXITED | os.WNOHANG | os.WNOWAIT)
+        return True
+    except OSError:
+        return False
+
+
+def is_living_child(process):
+    """Whether it is a child of this process that hasn't ended."""
+    try:
+        return os.waitid(os.P_PID, process, os.WEXITED | os.WNOHANG | os.WNOWAIT) is None
+    except OSError:
         return False
 
 
@@ -57,9 +74,7 @@ def number_here(process):
 def descendants(strangers=()):
     """The living processes below this one, but not these children and theirs, by their numbers in /proc."""
     children = {}
-    for name in os.listdir("/proc"):
-        if not name.isdigit():
-            continue
+    for name in names_in_proc():
         try:
             with open("/proc/%s/stat" % name, "rb") as status:
                 fields = status.read().rsplit(b")", 1)[1].split()
@@ -95,6 +110,7 @@ class Family:
     """The program and what it starts. Nothing else is ever waited for or sent a signal."""
 
     def __init__(self, recording, say):
+        self.recording = recording
         self.token = os.fsencode(os.path.basename(recording.directory)) + b"/"
         self.say = say
         self.strangers = frozenset(descendants())  # children from before: an exec may bring some
@@ -114,7 +130,13 @@ class Family:
 
     def recorded(self):
         """Those that write files of the recording, or may."""
-        return [p for p in descendants(self.strangers) if maps_file(p, self.token) is not False]
+        return self.recorded_among(descendants(self.strangers))
+
+    def recorded_among(self, family):
+        """Without /proc these are the children that have files there: who outlives its parent becomes one."""
+        if not names_in_proc():
+            return sorted({pid for pid, *_ in self.recording.extents() if is_living_child(pid)})
+        return [p for p in family if maps_file(p, self.token) is not False]
 
     def reap(self, first=None):
         """Takes the ends of children; the wait status of the first one if it is among them."""
@@ -158,8 +180,9 @@ class Family:
         while True:
             self.reap()
             family = descendants(self.strangers)
-            running = [p for p in family if maps_file(p, self.token) is not False]
-            if not running and (not family or time.monotonic() > limit):
+            running = self.recorded_among(family)
+            has_family = bool(family) or (not names_in_proc() and has_children())
+            if not running and (not has_family or time.monotonic() > limit):
                 self.reap()  # some may have ended while we looked
                 return True
             if running:

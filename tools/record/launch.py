@@ -398,13 +398,36 @@ def convert_all(recording, settings, first, running, ends):
         say(line)
     for line in recorder.advice([summary.process for summary in summaries], settings):
         say(line)
+    became_unrecorded = say_what_became(recording, summaries, running)
     lost = say_unrecorded(recording) or any(sum(summary.lost.values()) for summary in summaries)
     keep_or_remove(recording, running, faults)
     if faults:
         why = "what was recorded is damaged"
+    elif became_unrecorded:
+        why = "the program became one that wasn't recorded"
     else:
         why = "what the program did was lost" if lost else recorder.reason(bool(summaries))
     return any(summary.events for summary in summaries), why
+
+
+def say_what_became(recording, summaries, running):
+    """Says which processes became programs by exec that left nothing, though there was room; whether there is one."""
+    from convert import END_EXEC
+
+    if recording.unrecorded()[0]:
+        return False
+    begun = {(pid, image) for pid, image, *_ in recording.extents()}
+    gone = []
+    for summary in summaries:
+        pid, image = summary.process.key
+        if summary.process.end == END_EXEC and (pid, image + 1) not in begun and str(pid) not in map(str, running):
+            gone.append(summary.name())
+    if gone:
+        who = "%s became a program that wasn't" % gone[0]
+        if len(gone) > 1:
+            who = "%d processes became programs that weren't" % len(gone)
+        say(who + " recorded: statically linked, set-user-id, of another machine type, or with a cleared environment?")
+    return bool(gone)
 
 
 def say_unrecorded(recording):

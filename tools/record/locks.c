@@ -283,6 +283,23 @@ void release_write_further(struct thread *thread, uint64_t call)
         past_look(thread);
 }
 
+void held_let_go(struct thread *thread, uint32_t lock)
+{
+    struct held *held = thread->chunk ? held_find(thread, lock) : NULL;
+    if (!held)
+        return;
+    uint64_t call = held->word - word_kind(held->word);
+    for (uint64_t depth = held->depth; depth > 0; depth--)
+        release_write(thread, call);
+}
+
+void lock_let_go(struct thread *thread, const void *address)
+{
+    struct slot *slot = thread->held_count > 0 ? table_find(&process.locks, (uint64_t)(uintptr_t)address) : NULL;
+    if (slot && slot->value)
+        held_let_go(thread, (uint32_t)slot->value);
+}
+
 /* --- Keys ----------------------------------------------------------------------------------------------- */
 
 static void key_insert(struct thread *thread, uint64_t key)

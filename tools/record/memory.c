@@ -166,11 +166,8 @@ static void held_end(uintptr_t start, uintptr_t end)
     struct thread *thread = current_thread;
     if (!thread->chunk)
         return;
-    for (struct held *held; thread->held_count > 0 && (held = held_in(thread, start, end)) != NULL;) {
-        uint64_t call = held->word - word_kind(held->word);
-        for (uint64_t depth = held->depth; depth > 0; depth--)
-            release_write(thread, call);
-    }
+    for (struct held *held; thread->held_count > 0 && (held = held_in(thread, start, end)) != NULL;)
+        held_let_go(thread, word_object(held->word));
 }
 
 static int range_holds(uintptr_t start, uintptr_t end)
@@ -184,16 +181,114 @@ void memory_end_inside(uintptr_t start, uintptr_t end)
     FOR_PAGES(start, end, page_end(page, start, end))
 }
 
+/* Whether there are locks in the range that may be at their end. */
+static int may_end(uintptr_t start, uintptr_t end)
+{
+    return lock_page_count > 0 && start < end && !slow_inside() && process.state == PROCESS_RECORDED &&
+           range_holds(start, end);
+}
+
 void memory_end(uintptr_t start, uintptr_t end)
 {
-    if (lock_page_count == 0 || start >= end || slow_inside() || process.state != PROCESS_RECORDED ||
-        !range_holds(start, end))
+    if (!may_end(start, end))
         return;
     held_end(start, end);
     struct slow_state state;
     slow_enter(&state);
     memory_end_inside(start, end);
     slow_leave(&state);
+}
+
+/* --- Memory that may be given back ------------------------------------------------------------------------ */
+
+struct left_lock {
+    uintptr_t address;
+    uint64_t number;
+};
+
+#define LEFT_FEW 16
+
+/*
+ * The locks in memory that a call is about to give back. While it is at work they have no numbers: once the memory is
+ * free another thread may get it, before the call has come back, and what that makes there is another lock. Where the
+ * call fails, and in what stays, they get their numbers again.
+ */
+struct left {
+    struct left_lock few[LEFT_FEW];
+    struct left_lock *locks;
+    size_t count, room;
+};
+
+static size_t range_count(uintptr_t start, uintptr_t end)
+{
+    size_t count = 0;
+    FOR_PAGES(start, end,
+              for (size_t word = 0; word < PAGE_WORDS; word++) count +=
+              (size_t)__builtin_popcountll(places_within(page, word, start, end)))
+    return count;
+}
+
+/* Those for which there is no room are at their end. */
+static void page_leave(struct left *left, const struct lock_page *page, uintptr_t start, uintptr_t end)
+{
+    for (size_t word = 0; word < PAGE_WORDS; word++)
+        for (uint64_t places = places_within(page, word, start, end); places; places &= places - 1) {
+            uintptr_t first = (page->page << PAGE_BITS) + word * 64 * PLACE_BYTES;
+            uintptr_t address = first + (unsigned)__builtin_ctzll(places) * PLACE_BYTES;
+            struct slot *slot = table_find(&process.locks, address);
+            if (slot && slot->value && left->count < left->room)
+                left->locks[left->count++] = (struct left_lock){address, slot->value};
+            lock_forget((const void *)address);
+        }
+}
+
+static void left_begin(struct left *left, uintptr_t start, uintptr_t end)
+{
+    left->count = 0;
+    left->room = LEFT_FEW;
+    left->locks = left->few;
+    if (!may_end(start, end))
+        return;
+    struct slow_state state;
+    slow_enter(&state);
+    size_t count = range_count(start, end);
+    struct left_lock *locks = count > LEFT_FEW ? pages_new(count * sizeof *locks) : NULL;
+    if (locks) {
+        left->locks = locks;
+        left->room = count;
+    }
+    FOR_PAGES(start, end, page_leave(left, page, start, end))
+    slow_leave(&state);
+}
+
+/* Those of memory that stays have their numbers again; others the thread holds no longer. */
+static void left_end(struct left *left, uintptr_t from, uintptr_t to)
+{
+    if (left->count == 0)
+        return;
+    struct slow_state state;
+    slow_enter(&state);
+    for (size_t i = 0; i < left->count; i++) {
+        struct left_lock *lock = &left->locks[i];
+        struct slot *slot = table_find(&process.locks, lock->address);
+        if (lock->address < from || lock->address >= to || !slot || slot->value)
+            continue;
+        __atomic_store_n(&slot->value, lock->number, __ATOMIC_RELEASE);
+        memory_note(lock->address);
+        lock->number = 0;
+    }
+    slow_leave(&state);
+    for (size_t i = 0; i < left->count; i++)
+        if (left->locks[i].number)
+            held_let_go(current_thread, (uint32_t)left->locks[i].number);
+    if (left->locks != left->few)
+        pages_drop(left->locks, left->room * sizeof *left->locks);
+}
+
+/* Of a call that gives back all of it, or fails and gives back nothing. */
+static void left_end_all(struct left *left, uintptr_t start, uintptr_t end, int given_back)
+{
+    left_end(left, start, given_back ? start : end);
 }
 
 /* --- The functions that give memory back ---------------------------------------------------------------- */
@@ -224,25 +319,40 @@ EXPORTED void free(void *block)
 }
 
 /* A block that moves or becomes smaller ends the locks in what is left of the old one. */
+static void *realloc_with_locks(void *block, size_t size, size_t bytes)
+{
+    struct left left;
+    uintptr_t start = (uintptr_t)block, kept = start + size;
+    left_begin(&left, start, start + size);
+    void *result = real.realloc(block, bytes);
+    if (result == block && result)
+        kept = start + block_size(result);
+    else if (result || bytes == 0)
+        kept = start;
+    left_end(&left, start, kept);
+    return result;
+}
+
 EXPORTED void *realloc(void *block, size_t bytes)
 {
     if (unlikely(!real_found))
         real_find();
     size_t size = lock_page_count > 0 && block ? block_size(block) : 0;
-    void *result = real.realloc(block, bytes);
-    if (unlikely(size > 0 && (result || bytes == 0))) {
-        uintptr_t start = (uintptr_t)block;
-        memory_end(result == block ? start + block_size(result) : start, start + size);
-    }
-    return result;
+    if (unlikely(size > 0 && pages_may_hold((uintptr_t)block, (uintptr_t)block + size)))
+        return realloc_with_locks(block, size, bytes);
+    return real.realloc(block, bytes);
 }
 
 EXPORTED int munmap(void *start, size_t bytes)
 {
     if (unlikely(!real_found))
         real_find();
-    memory_end((uintptr_t)start, (uintptr_t)start + bytes);
-    return real.munmap(start, bytes);
+    struct left left;
+    uintptr_t from = (uintptr_t)start;
+    left_begin(&left, from, from + bytes);
+    int result = real.munmap(start, bytes);
+    left_end_all(&left, from, from + bytes, result == 0);
+    return result;
 }
 
 /* What is mapped over other memory takes its place. Called very early by some allocators, before the functions are
@@ -251,9 +361,14 @@ EXPORTED void *mmap(void *start, size_t bytes, int protection, int flags, int fi
 {
     if (unlikely(!real_found))
         return (void *)syscall(SYS_mmap, start, bytes, protection, flags, file, offset);
-    if (unlikely(flags & MAP_FIXED))
-        memory_end((uintptr_t)start, (uintptr_t)start + bytes);
-    return real.mmap(start, bytes, protection, flags, file, offset);
+    if (likely(!(flags & MAP_FIXED)))
+        return real.mmap(start, bytes, protection, flags, file, offset);
+    struct left left;
+    uintptr_t from = (uintptr_t)start;
+    left_begin(&left, from, from + bytes);
+    void *result = real.mmap(start, bytes, protection, flags, file, offset);
+    left_end_all(&left, from, from + bytes, result != MAP_FAILED);
+    return result;
 }
 
 EXPORTED void *mmap64(void *start, size_t bytes, int protection, int flags, int file, off_t offset)
@@ -268,13 +383,14 @@ EXPORTED void *mremap(void *start, size_t bytes, size_t new_bytes, int flags, ..
     va_end(further);
     if (unlikely(!real_found))
         return (void *)syscall(SYS_mremap, start, bytes, new_bytes, flags, wanted);
-    if (wanted)
-        memory_end((uintptr_t)wanted, (uintptr_t)wanted + new_bytes);
+    struct left left, target;
+    uintptr_t from = (uintptr_t)start, to = (uintptr_t)wanted;
+    left_begin(&left, from, from + bytes);
+    left_begin(&target, to, wanted ? to + new_bytes : to);
     void *result = real.mremap(start, bytes, new_bytes, flags, wanted);
-    if (result != MAP_FAILED && result != start)
-        memory_end((uintptr_t)start, (uintptr_t)start + bytes);
-    else if (result != MAP_FAILED && new_bytes < bytes)
-        memory_end((uintptr_t)start + new_bytes, (uintptr_t)start + bytes);
+    int moved = result != MAP_FAILED && result != start;
+    left_end(&left, from, moved ? from : from + (result == start ? new_bytes : bytes));
+    left_end_all(&target, to, to + new_bytes, result != MAP_FAILED);
     return result;
 }
 
@@ -311,9 +427,15 @@ EXPORTED int shmdt(const void *start)
     if (unlikely(!real_found))
         real_find();
     struct slot *slot = table_find(&process.segments, (uint64_t)(uintptr_t)start);
-    if (slot)
-        memory_end((uintptr_t)start, (uintptr_t)start + __atomic_load_n(&slot->value, __ATOMIC_ACQUIRE));
-    return real.shmdt(start);
+    uint64_t bytes = slot ? __atomic_exchange_n(&slot->value, 0, __ATOMIC_ACQ_REL) : 0;
+    struct left left;
+    uintptr_t from = (uintptr_t)start;
+    left_begin(&left, from, from + bytes);
+    int result = real.shmdt(start);
+    left_end_all(&left, from, from + bytes, result == 0);
+    if (slot && result != 0)
+        __atomic_store_n(&slot->value, bytes, __ATOMIC_RELEASE);
+    return result;
 }
 
 EXPORTED int dlclose(void *handle)

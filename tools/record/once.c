@@ -1,5 +1,5 @@
 /* What is run once under a lock: routines of pthread_once and call_once, initialisations of static variables; and the
- * calls that change a process's user. */
+ * calls that change a process's user or root. */
 #define _GNU_SOURCE
 #include <dlfcn.h>
 #include <sched.h>
@@ -223,7 +223,7 @@ void __cxa_guard_abort(uint64_t *guard)
     GUARD_END(guard, guards.abort(guard));
 }
 
-/* --- Users ------------------------------------------------------------------------------------------------- */
+/* --- Users and roots --------------------------------------------------------------------------------------- */
 
 EXPORTED int setuid(uid_t user)
 {
@@ -251,4 +251,12 @@ EXPORTED int setresuid(uid_t user, uid_t effective, uid_t saved)
     real_find();
     user_directory(effective);
     return real.setresuid(user, effective, saved);
+}
+
+/* Of a library that is first met afterwards no file is found. */
+EXPORTED int chroot(const char *path)
+{
+    real_find();
+    modules_meet();
+    return real.chroot(path);
 }

@@ -188,6 +188,26 @@ static uint64_t extent_bytes(uint64_t number)
     return bytes;
 }
 
+/* Maps the file with room for so many bytes, or for as many as the disk has, and as the process may map, but no fewer
+ * than the least. */
+static void *file_fit(int file, uint64_t *bytes, uint64_t least)
+{
+    errno = ENOSPC; /* where the limit of a file's size leaves too little */
+    for (; *bytes >= least && *bytes > 0; *bytes = *bytes / 4 / CHUNK_UNIT * CHUNK_UNIT) {
+        if (!file_fill(file, *bytes)) {
+            errno = ENOSPC;
+            continue;
+        }
+        void *pages = mmap(NULL, *bytes, PROT_READ | PROT_WRITE, MAP_SHARED, file, 0);
+        if (pages != MAP_FAILED)
+            return pages;
+        if (ftruncate(file, 0) != 0)
+            break;
+        errno = ENOMEM;
+    }
+    return MAP_FAILED;
+}
+
 /* Creates an extent's file with room for so many bytes at least, and maps it; NULL if that fails, with EEXIST in errno
  * if there is such a file. */
 static char *extent_map(uint64_t image, uint64_t number, uint64_t least)
@@ -196,16 +216,13 @@ static char *extent_map(uint64_t image, uint64_t number, uint64_t least)
     int file = extent_open(path, sizeof path, image, number);
     if (file < 0)
         return NULL;
-    void *pages = MAP_FAILED;
     uint64_t bytes = extent_bytes(number);
-    while (bytes >= least && !file_fill(file, bytes))
-        bytes = bytes / 4 / CHUNK_UNIT * CHUNK_UNIT;
-    if (bytes >= least && bytes > 0)
-        pages = mmap(NULL, bytes, PROT_READ | PROT_WRITE, MAP_SHARED, file, 0);
+    void *pages = file_fit(file, &bytes, least);
+    int error = errno;
     close(file);
     if (pages == MAP_FAILED) {
         unlink(path);
-        errno = ENOSPC;
+        errno = error;
         return NULL;
     }
     process.extent_bytes = bytes;
@@ -563,6 +580,7 @@ int process_ready(void)
         if (!real_find())
             return 0;
         in_slow_part = 1;
+        program_find();
         unwinder_start();
         process_start(NULL);
         fork_handlers_set();

@@ -40,6 +40,12 @@ void *pages_new_wiped(size_t bytes);
  * without a visit to all modules, they are visited if `otherwise` is 1. */
 int module_meet(uintptr_t address, int otherwise);
 
+/* Makes all modules known, outside of slow parts: before their files may be out of reach. */
+void modules_meet(void);
+
+/* At the start: where the program's file is, for when /proc doesn't tell. */
+void program_find(void);
+
 /* Writes the modules that are known to this process's file. Called between slow_enter and slow_leave. */
 void modules_tell(void);
 

@@ -65,6 +65,7 @@ typedef const struct timespec *deadline_t;
     X(int, seteuid, (uid_t)) \
     X(int, setreuid, (uid_t, uid_t)) \
     X(int, setresuid, (uid_t, uid_t, uid_t)) \
+    X(int, chroot, (const char *)) \
     X(void, _exit, (int)) \
     X(void, _Exit, (int)) \
     X(int, daemon, (int, int)) \

@@ -658,6 +658,11 @@ static inline __attribute__((always_inline)) void release_write(struct thread *t
     change_end(thread, outside);
 }
 
+/* What ends while the thread holds it is held no longer, as nobody will wait for it any more: the lock of this number,
+ * or the one at this address, which another one follows. */
+void held_let_go(struct thread *thread, uint32_t lock);
+void lock_let_go(struct thread *thread, const void *address);
+
 /* Counts what there was no room for. */
 static inline void count_loss(uint64_t *losses)
 {

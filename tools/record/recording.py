@@ -102,7 +102,7 @@ class Recording:
             if moment:
                 moments.setdefault(pid, set()).add(moment)
         found = []
-        for process in sorted(int(name) for name in os.listdir("/proc") if name.isdigit()):
+        for process in sorted(map(int, names_in_proc())):
             mapped = maps_file(process, token)
             if mapped or (mapped is None and started(process) in moments.get(process, ())):
                 found.append("%d" % process)
@@ -192,6 +192,14 @@ def holds_something(path, owners):
     except OSError:
         return False
     return stat.S_ISREG(status.st_mode) and status.st_uid in owners and status.st_size > 0
+
+
+def names_in_proc():
+    """The processes that /proc has; none where it isn't there, as in some containers."""
+    try:
+        return [name for name in os.listdir("/proc") if name.isdigit()]
+    except OSError:
+        return []
 
 
 def maps_file(process, token):

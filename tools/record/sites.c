@@ -12,7 +12,9 @@
 #include <fcntl.h>
 #include <link.h>
 #include <stdio.h>
+#include <stdlib.h>
 #include <string.h>
+#include <sys/auxv.h>
 #include <sys/mman.h>
 #include <sys/stat.h>
 #include <unistd.h>
@@ -232,6 +234,59 @@ static int module_describe(const struct module *module)
     return 1;
 }
 
+static char program_path[1024];
+
+void program_find(void)
+{
+    const char *path = (const char *)getauxval(AT_EXECFN);
+    if (program_path[0] || !path)
+        return;
+    size_t length = 0;
+    if (path[0] != '/' && getcwd(program_path, sizeof program_path / 2)) {
+        length = strlen(program_path);
+        program_path[length++] = '/';
+    }
+    snprintf(program_path + length, sizeof program_path - length, "%s", path);
+}
+
+/* The path that stands in this line of /proc/self/maps, if it is of what is mapped at this address. */
+static const char *path_in_line(const char *line, uintptr_t start)
+{
+    return strtoull(line, NULL, 16) == start ? strchr(line, '/') : NULL;
+}
+
+/* The whole path of what is mapped at this address; whether it could be told. Called in slow parts alone. */
+static int path_mapped(uintptr_t start, char *path, size_t size)
+{
+    static char text[2 * 4096 + 256]; /* not on the stack, of which a thread may have little */
+    int file = open("/proc/self/maps", O_RDONLY | O_CLOEXEC);
+    const char *found = NULL;
+    size_t kept = 0;
+    ssize_t length;
+    while (file >= 0 && !found && (length = read(file, text + kept, sizeof text - 1 - kept)) > 0) {
+        char *line = text, *end;
+        text[kept + (size_t)length] = 0;
+        for (; !found && (end = strchr(line, '\n')) != NULL; line = end + 1) {
+            *end = 0;
+            found = path_in_line(line, start);
+        }
+        if (found)
+            snprintf(path, size, "%s", found);
+        kept = strlen(line);
+        memmove(text, line, kept);
+    }
+    if (file >= 0)
+        close(file);
+    return found != NULL;
+}
+
+/* What the loader was given may be relative to a folder in which the process, or who reads this, isn't any more. */
+static void library_path(struct module *module, const char *name)
+{
+    if (name[0] == '/' || !strchr(name, '/') || !path_mapped(module->start, module->path, sizeof module->path))
+        snprintf(module->path, sizeof module->path, "%s", name);
+}
+
 static void module_add(struct dl_phdr_info *info, uintptr_t start, uintptr_t end, uint64_t look)
 {
     struct module *module = pages_new(sizeof *module);
@@ -242,17 +297,16 @@ static void module_add(struct dl_phdr_info *info, uintptr_t start, uintptr_t end
     module->end = end;
     static const char program[] = "/proc/self/exe"; /* is there also where the file was deleted */
     int is_program = !info->dlpi_name || !info->dlpi_name[0];
-    if (!is_program) {
-        snprintf(module->path, sizeof module->path, "%s", info->dlpi_name);
-    } else {
-        ssize_t length = readlink(program, module->path, sizeof module->path - 1);
-        module->path[length > 0 ? length : 0] = 0;
-    }
+    ssize_t length = is_program ? readlink(program, module->path, sizeof module->path - 1) : 0;
+    if (length > 0)
+        module->path[length] = 0;
+    else
+        library_path(module, is_program ? program_path : info->dlpi_name);
     const char *base = strrchr(module->path, '/');
     base = base ? base + 1 : module->path;
     module->all_wrappers = strncmp(base, "libstdc++.so", 12) == 0 || strncmp(base, "libc++.so", 9) == 0;
     if (!module->all_wrappers)
-        module_find_wrappers(module, is_program ? program : module->path);
+        module_find_wrappers(module, length > 0 ? program : module->path);
     module->seen = look;
     modules[module_count] = module;
     __atomic_store_n(&module_count, module_count + 1, __ATOMIC_RELEASE);
@@ -305,6 +359,12 @@ static uint64_t modules_look(void)
     dl_iterate_phdr(module_visit, &look);
     visit_end(&signals);
     return look;
+}
+
+void modules_meet(void)
+{
+    if (!slow_inside() && process_ready())
+        modules_look();
 }
 
 /* What lies nowhere in a module, as in the heap, is found out without a visit by the C library of 2022 and later. Of an

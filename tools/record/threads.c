@@ -182,13 +182,13 @@ static void thread_exit(void *value)
     }
     struct slow_state state;
     slow_enter(&state);
+    if (thread->number != 0 && thread->stack_from < thread->stack_to) /* that of the first one stays */
+        memory_end_inside(thread->stack_from, thread->stack_to);
     if (thread->held_count > 0) {
         number_note(RECORD_ENDED, thread->number);
         slow_leave(&state);
         return;
     }
-    if (thread->number != 0 && thread->stack_from < thread->stack_to) /* that of the first one stays */
-        memory_end_inside(thread->stack_from, thread->stack_to);
     if (thread->keys != thread->first_keys)
         pages_drop(thread->keys, sizeof *thread->keys * (thread->key_mask + 1));
     thread->next_free = process.free_threads;

@@ -70,8 +70,10 @@ static inline int is_plain(const pthread_mutex_t *lock)
     if (unlikely(!thread)) \
         return call; \
     int result = call; \
-    if (good) \
+    if (good) { \
+        lock_let_go(thread, lock); \
         lock_number_new(thread, lock, class, LOCK_MADE, CALLER_SITE()); \
+    } \
     count_other(thread); \
     return result
 
@@ -80,8 +82,10 @@ static inline int is_plain(const pthread_mutex_t *lock)
     if (unlikely(!thread)) \
         return call; \
     int result = call; \
-    if (result == 0) \
+    if (result == 0) { \
+        lock_let_go(thread, lock); \
         lock_forget(lock); \
+    } \
     count_other(thread); \
     return result
 

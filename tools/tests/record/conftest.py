@@ -29,7 +29,8 @@ def programs(tmp_path_factory):
         flags = ["-std=c++17", "-O1", "-gdwarf-4"]  # whose inlined calls binutils reads
         build("clang++", C_FLAGS + flags + ["-o", "wrappers-clang", source("wrappers.cc")], folder)
     build("g++", C_FLAGS + ["-std=c++17", "-O0", "-o", "once", source("once.cc")], folder)
-    build("gcc", C_FLAGS + ["-O1", "-o", "memory", source("memory.c"), "-ldl"], folder)
+    build("gcc", C_FLAGS + ["-O1", "-rdynamic", "-o", "memory", source("memory.c"), "-ldl"], folder)
+    build("gcc", C_FLAGS + ["-O1", "-shared", "-fPIC", "-o", "moves.so", source("moves.c")], folder)
     for name, line in (("one", 100), ("two", 200)):
         flags = ["-shared", "-fPIC", "-DNAME=" + name, "-DLINE=%d" % line]
         build("gcc", C_FLAGS + flags + ["-o", "plugin-%s.so" % name, source("plugin.c")], folder)

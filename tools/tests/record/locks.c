@@ -699,6 +699,29 @@ static void *takes_all_room(void *unused)
 }
 
 /* Repeats something at each place of its chunk, up to the last one, behind which there is the other thread's. */
+/* How much memory the process has mapped. */
+static unsigned long bytes_mapped(void)
+{
+    unsigned long pages = 0;
+    FILE *file = fopen("/proc/self/statm", "r");
+    if (!file || fscanf(file, "%lu", &pages) != 1)
+        _exit(99);
+    fclose(file);
+    return pages * (unsigned long)sysconf(_SC_PAGESIZE);
+}
+
+/* Files of 256 KB can still be mapped, and none that is larger. What is needed once is there before that. */
+static void confined(void)
+{
+    struct rlimit limit;
+    one_pair();
+    bytes_mapped();
+    limit.rlim_cur = limit.rlim_max = bytes_mapped() + (1000ul << 10);
+    setrlimit(RLIMIT_AS, &limit);
+    for (int i = 1; i < 40000; i++)
+        one_pair();
+}
+
 static void no_files(void)
 {
     static pthread_mutex_t crowd[1000];
@@ -847,6 +870,13 @@ static void forks_in_handler(void)
 }
 
 static char *program;
+
+/* Before its first lock: the program's file is out of reach then. */
+static void changes_root(void)
+{
+    MUST(mkdir("root", 0700) == 0 && chroot("root") == 0);
+    one_pair();
+}
 
 static void executes(void)
 {
@@ -1019,8 +1049,8 @@ static const struct {
     {"ring", ring}, {"two_rings", two_rings}, {"deeper", deeper}, {"no_threads", no_threads},
     {"no_threads_amid_many", no_threads_amid_many},
     {"repeats", repeats}, {"volume", volume}, {"volume_and_wait", volume_and_wait}, {"volume_and_thread", volume_and_thread},
-    {"no_files", no_files}, {"many_threads", many_threads}, {"forks", forks},
-    {"parent_goes_on", parent_goes_on}, {"raw_fork", raw_fork}, {"forks_in_handler", forks_in_handler}, {"executes", executes}, {"clears_environment", clears_environment},
+    {"confined", confined}, {"no_files", no_files}, {"many_threads", many_threads}, {"forks", forks},
+    {"parent_goes_on", parent_goes_on}, {"raw_fork", raw_fork}, {"forks_in_handler", forks_in_handler}, {"changes_root", changes_root}, {"executes", executes}, {"clears_environment", clears_environment},
     {"goes_to_background", goes_to_background}, {"waits_for_signal", waits_for_signal}, {"frames", frames}, {"frames_vary", frames_vary},
     {"table", table}, {"nothing", nothing},
 };

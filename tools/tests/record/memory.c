@@ -1,6 +1,7 @@
 /* Memory that is given back with locks in it, which nobody destroyed: the first argument names a program. */
 #define _GNU_SOURCE
 #include <dlfcn.h>
+#include <errno.h>
 #include <link.h>
 #include <malloc.h>
 #include <pthread.h>
@@ -10,6 +11,7 @@
 #include <string.h>
 #include <sys/mman.h>
 #include <sys/resource.h>
+#include <sys/shm.h>
 #include <ucontext.h>
 #include <unistd.h>
 
@@ -102,6 +104,90 @@ static void unmapped(void)
     use((pthread_mutex_t *)(pages + 1000000));
 }
 
+static void hold(pthread_mutex_t *lock)
+{
+    pthread_mutex_lock(lock); /* @hold */
+    use(&b);
+}
+
+static void let_go(pthread_mutex_t *lock)
+{
+    use(&b);
+    pthread_mutex_unlock(lock); /* @let_go */
+}
+
+/* Calls that fail give nothing back: the locks in that memory are as they were, and held. */
+static void failing(void)
+{
+    enum { SIZE = 1 << 16 };
+    char *pages = mmap(NULL, SIZE, PROT_READ | PROT_WRITE, MAP_PRIVATE | MAP_ANONYMOUS, -1, 0);
+    pthread_mutex_t *lock = (pthread_mutex_t *)(pages + SIZE / 2);
+    volatile size_t too_much = PTRDIFF_MAX;
+    hold(lock);
+    MUST(munmap(pages + 1, SIZE) == -1 && errno == EINVAL);
+    MUST(mmap(pages, SIZE, PROT_READ, MAP_PRIVATE | MAP_FIXED, -1, 0) == MAP_FAILED && errno == EBADF);
+    MUST(mremap(pages, SIZE, SIZE / 4, MREMAP_FIXED, pages) == MAP_FAILED && errno == EINVAL);
+    let_go(lock);
+    struct node *nodes = calloc(2, sizeof *nodes);
+    hold(&nodes[1].lock);
+    MUST(realloc(nodes, too_much) == NULL && errno == ENOMEM);
+    let_go(&nodes[1].lock);
+}
+
+/* Where a segment was that is gone, whoever lets it go once more doesn't end what is there now. */
+static void detached_twice(void)
+{
+    int segment = shmget(IPC_PRIVATE, 1 << 16, IPC_CREAT | 0600);
+    char *pages = shmat(segment, NULL, 0);
+    shmctl(segment, IPC_RMID, NULL);
+    MUST(pages != (char *)-1);
+    use((pthread_mutex_t *)pages);
+    MUST(shmdt(pages) == 0);
+    MUST(mmap(pages, 1 << 16, PROT_READ | PROT_WRITE, MAP_PRIVATE | MAP_ANONYMOUS | MAP_FIXED, -1, 0) == pages);
+    hold((pthread_mutex_t *)pages);
+    MUST(shmdt(pages) == -1 && errno == EINVAL);
+    let_go((pthread_mutex_t *)pages);
+}
+
+static struct node *old_block;
+
+/* Of the library moves.c: is called when a block has moved, and before realloc comes back. */
+void block_moved(void *block)
+{
+    static int moves;
+    if (block != old_block || moves++ > 0)
+        return;
+    memset(block, 0, sizeof *old_block);
+    hold(&old_block->lock);
+}
+
+/* Another one has the old block before the call has come back that moved it. (It is the same thread here, which has no
+ * part in how the recorder tells the two locks.) */
+static void taken_early(void)
+{
+    old_block = calloc(1, sizeof *old_block);
+    use(&old_block->lock);
+    struct node *lock_of_old = old_block;
+    MUST(realloc(lock_of_old, 100000) != NULL);
+    let_go(&old_block->lock);
+}
+
+static pthread_mutex_t made_twice = PTHREAD_MUTEX_INITIALIZER;
+static pthread_rwlock_t gone = PTHREAD_RWLOCK_INITIALIZER;
+
+/* Locks that are made anew, or destroyed, while they are held. */
+static void remade(void)
+{
+    pthread_mutex_lock(&made_twice); /* @remade */
+    pthread_mutex_init(&made_twice, NULL);
+    use(&b);
+    use(&made_twice);
+    for (int i = 0; i < 2; i++)
+        pthread_rwlock_rdlock(&gone); /* @gone */
+    MUST(pthread_rwlock_destroy(&gone) == 0);
+    use(&b);
+}
+
 static uintptr_t stack_lock;
 
 static void *uses_stack(void *unused)
@@ -121,6 +207,24 @@ static void stacks(void)
         pthread_t thread;
         pthread_create(&thread, NULL, uses_stack, NULL); /* @stack_fork */
         pthread_join(thread, NULL);                      /* @stack_join */
+    }
+}
+
+static pthread_mutex_t kept[2] = {PTHREAD_MUTEX_INITIALIZER, PTHREAD_MUTEX_INITIALIZER};
+
+static void *keeps(void *lock)
+{
+    pthread_mutex_lock(lock); /* @keeps */
+    return uses_stack(NULL);
+}
+
+/* The same, where each thread ends with a lock that it holds. */
+static void keepers(void)
+{
+    for (int i = 0; i < 2; i++) {
+        pthread_t thread;
+        pthread_create(&thread, NULL, keeps, &kept[i]); /* @keeps_fork */
+        pthread_join(thread, NULL);                     /* @keeps_join */
     }
 }
 
@@ -269,6 +373,16 @@ static void lockers(void)
     }
 }
 
+/* A library whose path is relative to where the process isn't any more. */
+static void wanders(void)
+{
+    MUST(chdir("..") == 0);
+    char *path = getenv("PLUGIN");
+    void *library = dlopen(path, RTLD_NOW);
+    MUST(library != NULL && chdir("/") == 0);
+    ((void (*)(void))(uintptr_t)dlsym(library, "run"))();
+}
+
 static int visits_stop;
 
 static int visit(struct dl_phdr_info *info, size_t size, void *unused)
@@ -312,8 +426,8 @@ int main(int count, char **arguments)
         const char *name;
         void (*run)(void);
     } programs[] = {
-        {"freed", freed},         {"freed_held", freed_held}, {"moved", moved},         {"unmapped", unmapped}, {"stacks", stacks},   {"lent", lent},     {"owns", owns},
-        {"elsewhere", elsewhere}, {"handles", handles}, {"plugins", plugins}, {"lockers", lockers}, {"visits", visits},
+        {"freed", freed},         {"freed_held", freed_held}, {"moved", moved},         {"unmapped", unmapped}, {"stacks", stacks},   {"keepers", keepers}, {"lent", lent},     {"owns", owns},
+        {"failing", failing}, {"detached_twice", detached_twice}, {"taken_early", taken_early}, {"remade", remade}, {"elsewhere", elsewhere}, {"handles", handles}, {"plugins", plugins}, {"lockers", lockers}, {"wanders", wanders}, {"visits", visits},
     };
     for (size_t i = 0; count > 1 && i < sizeof programs / sizeof programs[0]; i++)
         if (strcmp(programs[i].name, arguments[1]) == 0) {

@@ -1,6 +1,9 @@
 """Memory that is given back: a lock in it is at its end, and the next one there is another."""
 
-from c_traces import expect, record
+import os
+
+from c_traces import expect, known, record
+from known_traces import compare
 
 
 def test_lock_in_freed_memory_is_at_its_end():
@@ -44,6 +47,43 @@ def test_lock_in_memory_that_is_unmapped():
     expect("unmapped", uses(1, 2, 3), "memory.c")
 
 
+def held(name):
+    """A lock that is held while another one is used, now and later. That use is known the second time."""
+    return "\nmain|acq(%s)|@hold\nmain|acq(b)|@use\nmain|rel(b)|@use_end\nmain|rel(%s)|@let_go" % (name, name)
+
+
+def test_calls_that_fail_give_nothing_back():
+    expect("failing", held("mutex@@hold#1") + held("mutex@@hold#2"), "memory.c")
+
+
+def test_segment_that_is_let_go_twice():
+    expect("detached_twice", uses(1) + held("mutex@@hold#1"), "memory.c")
+
+
+def test_block_that_another_one_has_before_the_call_comes_back():
+    run = record("./memory", "taken_early", environment={**os.environ, "LD_PRELOAD": os.path.abspath("moves.so")})
+    assert run.status == 0, "status %d: %s" % (run.status, run.said)
+    compare(run.lines(), known(uses(1) + held("mutex@@hold#1"), "memory.c"))
+
+
+def test_locks_that_are_made_anew_or_destroyed_while_they_are_held():
+    expect(
+        "remade",
+        """
+        main|acq(made_twice)|@remade
+        main|rel(made_twice)|@remade
+        main|acq(b)|@use
+        main|rel(b)|@use_end
+        main|acq(made_twice#2)|@use
+        main|rel(made_twice#2)|@use_end
+        main|racq(gone)|@gone
+        main|racq(gone)|@gone
+        main|rrel(gone)|@gone
+        main|rrel(gone)|@gone""",
+        "memory.c",
+    )
+
+
 def test_lock_on_the_stack_of_a_thread_that_ended():
     text = [
         "main|fork(main.%d:uses_stack)|@stack_fork\nmain|join(main.%d:uses_stack)|@stack_join" % (i, i) for i in (1, 2)
@@ -52,6 +92,15 @@ def test_lock_on_the_stack_of_a_thread_that_ended():
         text.append("main.%d:uses_stack|acq(mutex@@stack#main.%d:1)|@stack" % (i, i))
         text.append("main.%d:uses_stack|rel(mutex@@stack#main.%d:1)|@stack_end" % (i, i))
     expect("stacks", "\n".join(text), "memory.c")
+
+
+def test_lock_on_the_stack_of_a_thread_that_ended_with_another_one_held():
+    text = ["main|fork(main.%d:keeps)|@keeps_fork\nmain|join(main.%d:keeps)|@keeps_join" % (i, i) for i in (1, 2)]
+    for i, kept in ((1, "kept"), (2, "kept+0x28")):
+        text.append("main.%d:keeps|acq(%s)|@keeps" % (i, kept))
+        text.append("main.%d:keeps|acq(mutex@@stack#main.%d:1)|@stack" % (i, i))
+        text.append("main.%d:keeps|rel(mutex@@stack#main.%d:1)|@stack_end" % (i, i))
+    expect("keepers", "\n".join(text), "memory.c")
 
 
 def test_lock_on_the_stack_of_a_thread_that_another_one_used():
@@ -94,6 +143,13 @@ def test_library_in_the_place_of_another():
         main|rel(lock_of_two)|plugin.c:200""",
         "memory.c",
     )
+
+
+def test_library_of_a_relative_path():
+    plugin = os.path.join(".", os.path.basename(os.getcwd()), "plugin-one.so")
+    run = record("./memory", "wanders", environment={**os.environ, "PLUGIN": plugin})
+    assert run.status == 0, "status %d: %s" % (run.status, run.said)
+    compare(run.lines(), ["main|acq(lock_of_one)|plugin.c:100", "main|rel(lock_of_one)|plugin.c:100"])
 
 
 def test_library_without_code_in_the_place_of_another():

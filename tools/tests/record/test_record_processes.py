@@ -9,7 +9,7 @@ import tempfile
 import pytest
 from c_programs import end, has_ended, raw_directories, raw_directory
 from c_traces import PAIR, convert, known, record
-from known_traces import LIMIT, RECORD, REFUSED, compare, read_line, read_lines, start, wait_for
+from known_traces import LIMIT, NO_EVENTS, RECORD, REFUSED, compare, read_line, read_lines, start, wait_for
 
 
 def test_forked_process():
@@ -125,6 +125,16 @@ def test_program_that_becomes_another():
     assert run.files() == ["t.std", "t.std.%s.1" % process], str(run.files())
     compare(run.lines(), known(PAIR))
     assert len(run.lines(".%s.1" % process)) == 8, str(run.lines(".%s.1" % process))
+    assert "became" not in run.said, run.said
+
+
+@pytest.mark.parametrize("options", [(), ("--live",)])
+@pytest.mark.parametrize("words", [("sh", "-c", "exec ./locks-static table"), ("env", "-i", "./locks", "table")])
+def test_program_that_becomes_one_that_cannot_be_recorded(words, options):
+    run = record(*words, options=options)
+    assert run.status == NO_EVENTS, "%d: %s" % (run.status, run.said)
+    assert "(%s) became a program that wasn't recorded: " % " ".join(words) in run.said, run.said
+    assert "the program became one that wasn't recorded (" in run.said, run.said
 
 
 def test_children_of_a_shell():
@@ -234,6 +244,28 @@ def test_program_in_a_namespace_of_its_own():
     assert run.status == 0, run.said
     traces = [run.lines(name[len("t.std") :]) for name in run.files()]
     assert known(PAIR) in traces, str(run.files())
+
+
+@pytest.mark.parametrize("options", [(), ("--live",)])
+def test_process_in_the_background_without_proc(options):
+    words = ["unshare", "-m", "sh", "-c", 'mount -t tmpfs none /proc && exec "$@"', "sh"]
+    if subprocess.run(words + ["true"], stderr=subprocess.DEVNULL).returncode != 0:
+        pytest.skip("no namespaces of mounts here")
+    command = [RECORD, *options, "-o", "t.std", "sh", "-c", "(sleep 1; exec ./locks table) & exit 0"]
+    done = subprocess.run(words + command, stdin=subprocess.DEVNULL, stderr=subprocess.PIPE, timeout=LIMIT)
+    assert done.returncode == 0, "%d: %s" % (done.returncode, done.stderr.decode())
+    assert b", which runs on\n" in done.stderr and b": 2 events" in done.stderr, done.stderr.decode()
+    if not options:
+        (written,) = (name for name in os.listdir(".") if name.startswith("t.std"))
+        compare(read_lines(written), known("main|acq(many+0x78)|@table\nmain|rel(many+0x78)|@table_end"))
+
+
+def test_program_that_changes_its_root():
+    if os.geteuid() != 0:
+        pytest.skip("not root")
+    run = record("./locks", "changes_root")
+    assert run.status == 0, "%d: %s" % (run.status, run.said)
+    compare(run.lines(), known(PAIR))
 
 
 @pytest.fixture

@@ -88,6 +88,12 @@ def test_limit_of_file_sizes_that_leaves_room(limit):
     assert len(lines) >= 4 * 224 * 224 and "lost" not in run.said, "%d lines: %s" % (len(lines), run.said)
 
 
+def test_limit_of_memory_that_leaves_room_for_small_files():
+    run = record("./locks", "confined", options=("--all",))
+    assert run.status == 0 and "lost" not in run.said, "%d: %s" % (run.status, run.said)
+    assert len(run.lines()) == 2 * 40000, "%d lines: %s" % (len(run.lines()), run.said)
+
+
 def test_no_file_can_be_opened():
     """The reason is told. What one thread repeats where its room ends leaves the other's events alone, which are behind it."""
     run = record("./locks", "no_files")
