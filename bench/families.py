@@ -40,11 +40,11 @@ def in_order(draw, order, depth):
 
 def modules(
     draw, modules=3, threads_of_module=2, locks=20, sections=150, depth=6, gated=1.0, linkers=1, links=60,
-    depth_of_linker=2,
+    depth_of_linker=2, is_linked_under_gate=False,
 ):  # fmt: skip
     """A program of modules, which take their own locks in any order under one lock of the module, and of linkers, which
-    take locks of several modules. Modules alone have no cycle, but through a linker each of their many edges may be in
-    one."""
+    take locks of several modules, or do so under one gate. Modules alone have no cycle, but through a linker each of
+    their many edges may be in one."""
     for module, thread, section in itertools.product(range(modules), range(threads_of_module), range(sections)):
         inner = drawn(draw, f"lock{module}.", locks, depth)
         gates = [f"gate{module}"] if draw.random() < gated else []
@@ -55,7 +55,8 @@ def modules(
         else:
             linked = [draw.randrange(modules) for _ in range(depth_of_linker)]
         inner = dict.fromkeys(f"lock{module}.{draw.randrange(locks)}" for module in linked)
-        yield from nested(f"linker{linker}", f"link{section % PIECES}.c", inner)
+        gates = ["gate"] if is_linked_under_gate else []
+        yield from nested(f"linker{linker}", f"link{section % PIECES}.c", [*gates, *inner])
 
 
 def subsystems(
@@ -74,9 +75,13 @@ def subsystems(
             yield from nested(thread, f"link{subsystem}.c", pair)
 
 
-def gate_subsets(draw, layers=4, locks=20, threads=100, sections=40, gates=7, gates_of_section=2):
+def gate_subsets(draw, layers=4, locks=20, threads=100, sections=40, gates=7, gates_of_section=2, aside=0):
     """A ring of layers, where each call takes a lock of its layer and one of the next, under a few of several gate
-    locks. There are fewer disjoint sets of gates than a round has edges, which no single gate and no two calls tell."""
+    locks. There are fewer disjoint sets of gates than a round has edges, which no single gate and no two calls tell.
+    Beside them two threads may take some pairs of locks both ways, which the ring has nothing to do with."""
+    for pair in range(aside):
+        yield from nested("aside0", "aside.c", [f"left{pair}", f"right{pair}"])
+        yield from nested("aside1", "aside.c", [f"right{pair}", f"left{pair}"])
     for thread, section in itertools.product(range(threads), range(sections)):
         layer = draw.randrange(layers)
         outer = [f"gate{gate}" for gate in sorted(draw.sample(range(gates), gates_of_section))]
@@ -339,11 +344,22 @@ def actors(draw, threads=24, actors=150, sections=80, upward=0.03, dispatched=0.
         yield from nested(thread, f"{code}{section % PIECES}.c", taken)
 
 
+def offsets(draw, offsets=9, threads_of_offset=1, shuffles=1):
+    """Groups of threads, each of which goes on from lock to lock round by an offset of its own, which are the powers of -2.
+    Two steps of one group undo one of the next, but no steps of different groups come round: so each edge has a short
+    way back, along edges that don't go together, and there is no cycle where a group is one thread."""
+    locks = 2**offsets - 1
+    for offset, thread, _ in itertools.product(range(offsets), range(threads_of_offset), range(shuffles)):
+        for lock in draw.sample(range(locks), locks):
+            pair = [f"lock{lock}", f"lock{(lock + (-2) ** offset) % locks}"]
+            yield from nested(f"thread{offset}.{thread}", f"offset{offset}.c", pair)
+
+
 FAMILIES = {
     family.__name__.replace("_", "-"): family
     for family in (
         modules, subsystems, gate_subsets, pool, pipeline, database, hierarchy, turnstile, cohorts, handover, grid,
-        work_stealing, stripes, shards, recursive, back_off, gui, frames, actors,
+        work_stealing, stripes, shards, recursive, back_off, gui, frames, actors, offsets,
     )
 }  # fmt: skip
 

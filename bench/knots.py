@@ -142,13 +142,15 @@ SHAPES = {
             "--threads-of-module 2 --sections 400 --depth 8",
             "--threads-of-module 4 --locks 30 --depth 8 --depth-of-linker 4 ask --len 5",
             "--gated 0.97 --sections 300",
+            "--modules 4 --threads-of-module 4 --depth 4 --sections 60 --linkers 12 --links 30 --linked-under-gate",
         ],
     },
     "subsystems": {"small": [""], "large": ["--sections 400 --depth 5"]},
     "gate-subsets": {
-        "small": [""],
+        "small": ["", "--layers 5 --gates 4 --gates-of-section 1 --locks 8 --threads 30 --aside 1 ask --len 5"],
         "large": ["--threads 200 --locks 12 --sections 30", "--layers 5 --gates 9 --locks 12 ask --len 5"],
     },
+    "offsets": {"small": ["--offsets 7 ask --len 7", "--offsets 9 ask --len 6"], "large": ["--offsets 10 ask --len 6"]},
     "pool": {
         "small": [""],
         "large": [

@@ -98,6 +98,12 @@ CYCLES_TAKEN_AWAY = [
     ("frames --no-rendered", "frames"),
     # all take locks down the tree, and the dispatcher last
     ("actors --dispatched 0 --upward 0", "actors"),
+    # a cycle takes two linkers, whose gate keeps them apart
+    ("modules --linkers 3 --linked-under-gate", "modules --linkers 3"),
+    # a round of four layers has four edges, under three gates; what is aside has cycles of its own
+    ("gate-subsets --gates 3 --gates-of-section 1", "gate-subsets --gates 3 --gates-of-section 1 --aside 1"),
+    # twice an offset and then the next one
+    ("offsets --offsets 5", "offsets --offsets 5 --threads-of-offset 2"),
 ]
 
 
