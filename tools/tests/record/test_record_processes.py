@@ -251,7 +251,7 @@ def test_process_in_the_background_without_proc(options):
     words = ["unshare", "-m", "sh", "-c", 'mount -t tmpfs none /proc && exec "$@"', "sh"]
     if subprocess.run(words + ["true"], stderr=subprocess.DEVNULL).returncode != 0:
         pytest.skip("no namespaces of mounts here")
-    command = [RECORD, *options, "-o", "t.std", "sh", "-c", "(sleep 1; exec ./locks table) & exit 0"]
+    command = [RECORD, *options, "-o", "t.std", "sh", "-c", "(sleep 10; exec ./locks table) & exit 0"]
     done = subprocess.run(words + command, stdin=subprocess.DEVNULL, stderr=subprocess.PIPE, timeout=LIMIT)
     assert done.returncode == 0, "%d: %s" % (done.returncode, done.stderr.decode())
     assert b", which runs on\n" in done.stderr and b": 2 events" in done.stderr, done.stderr.decode()
