@@ -10,5 +10,6 @@ pub mod ByKinds
 pub mod Closing
 pub mod Fewer
 pub mod OfOneKind
+pub mod Owned
 pub mod Partnered
 pub mod NotLonger

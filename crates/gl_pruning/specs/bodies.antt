@@ -6,6 +6,7 @@ pub mod Gaps
 pub mod Kinds
 pub mod Loops
 pub mod Numbers
+pub mod Owners
 pub mod Partners
 pub mod Ranks
 pub mod Turns

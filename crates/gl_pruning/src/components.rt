@@ -20,8 +20,8 @@ pub(crate) struct Step {
 }
 
 impl Step {
-    // The same step the other way.
-    fn back(self) -> Step {
+    /// The same step the other way.
+    pub(crate) fn back(self) -> Step {
         Step {
             from: self.to,
             to: self.from,

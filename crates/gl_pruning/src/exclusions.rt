@@ -50,8 +50,8 @@ impl Exclusion {
     }
 }
 
-// Whether the edge is made under this lock, which is held exclusively.
-fn is_under(edge: &Edge, lock: LockId) -> bool
+/// Whether the edge is made under this lock, which is held exclusively.
+pub(crate) fn is_under(edge: &Edge, lock: LockId) -> bool
     ensures { IsTrue result
         → Contains edge.now.guards (record { lock = lock; mode = Exclusive }) }
 {

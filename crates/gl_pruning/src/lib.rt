@@ -6,7 +6,8 @@
 //! alone among edges of their own thread: no edge of another thread holds the lock that such an edge wants,
 //! or none wants the one that it holds. Others are stuck: none of the edges that are kept may follow such an
 //! edge in a cycle, or none may lead it. Others have no way back: from the lock that such an edge wants no
-//! walk of edges that go with it leads to the lock that it holds. And where edges are alike, no round of
+//! walk of edges that go with it leads to the lock that it holds; of many edges this is seen at once, where an owner, their thread or
+//! a lock that is held around them, alone joins parts of the graph. And where edges are alike, no round of
 //! kinds may go on from theirs. Where some were left out, ranks are made anew for those that stay. How ranks,
 //! epochs, ways and kinds are found is not proved; what is found is checked.
 //!
@@ -29,10 +30,12 @@ mod exclusions;
 mod far;
 mod grains;
 mod kinds;
+mod links;
 mod loops;
 mod models;
 mod no_way;
 mod numbers;
+mod owners;
 mod parallel;
 mod partners;
 mod parts;

@@ -163,7 +163,6 @@ impl Sought<'_> {
         let budget = part.share_of(BUDGET);
         let mut ways = Ways::new(alloc, self, numbers.count(), &ends, kept, budget)?;
         self.leave_out_far(part, &mut ways, budget, &ends, kept)?;
-        self.leave_out_far_without(alloc, part, &mut ways, budget, &ends, kept)?;
         for _ in 0..ROUNDS {
             if !self.leave_out_each(part, &mut ways, &ends, kept)? {
                 return Ok(());

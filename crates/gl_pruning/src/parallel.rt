@@ -150,7 +150,7 @@ fn leave_out_parallel(
     ensures { OnOk result (GoesOnSeeking sought.now kept.old.items kept.new.items) }
 {
     match reason {
-        Reason::Stuck => sought.leave_out_again(alloc, reason, effort, kept),
+        Reason::Through | Reason::Stuck => { sought.leave_out_again(alloc, reason, effort, kept) }
         Reason::Alike(_) => leave_out_by_parts(rt, alloc, sought, reason, effort, kept),
         Reason::NoWay => leave_out_in_passes(rt, alloc, sought, effort, kept),
     }

@@ -2,14 +2,14 @@
 //!
 //! The edges that lie on no loop are the first, since they are soon found, then those that lie on none of their
 //! epoch where a run has some, and then those that are alone among edges of their own thread. The others are left out for one reason after the other, the cheaper ones
-//! first: those beside which none may stand; by kind, since there may be many edges of each kind; those that have
-//! no way back; by kind and thread; and single ones by their segments. Where some are, others may lie on no loop any more.
+//! first: those whose way back leads through others of their thread, or of a lock that they are made under; those beside which
+//! none may stand; by kind, since there may be many edges of each kind; those that have no way back; by kind and thread; and single ones by their segments. Where some are, others may lie on no loop any more.
 ghost use Rattle.std.specs.Prelude.{◌≡◌, ◌∷◌, [], IfOk, OnOk, count_by};
 ghost use Rattle.gl_filters.specs.Picked.{edges_of_table};
 ghost use Rattle.gl_pruning.specs.Alone.{LeavesOutAlone};
 ghost use Rattle.gl_pruning.specs.Sought.{KeepsSought, GoesOnSeeking};
 ghost use Rattle.gl_pruning.specs.declared.grains.Grain.TheVariants.{ByKind, ByThread, BySegment};
-ghost use Rattle.gl_pruning.specs.declared.reasons.Reason.TheVariants.{Alike, NoWay, Stuck};
+ghost use Rattle.gl_pruning.specs.declared.reasons.Reason.TheVariants.{Alike, NoWay, Stuck, Through};
 
 use crate::grains::Grain;
 use crate::loops::edges_on_loops;
@@ -21,7 +21,7 @@ use std::alloc::Global;
 /// All the effort that a reason makes at most.
 pub const ALL_EFFORT: usize = usize::MAX;
 
-// How many times edges beside which none may stand are left out, as long as there are any.
+// How many times edges are left out for a reason that is soon gone through, as long as there are any.
 const TURNS: usize = 4;
 
 // How many edges are looked at for the effort of one.
@@ -33,6 +33,8 @@ const MOST_LOOKS: usize = 100_000_000;
 /// Why edges are left out.
 #[derive(Clone, Copy, Debug)]
 pub(crate) enum Reason {
+    // their way back leads through others of their owner
+    Through,
     // none may follow them, or none may lead them
     Stuck,
     // none of a cycle is alike to them
@@ -42,11 +44,12 @@ pub(crate) enum Reason {
 }
 
 /// The reasons, in their order.
-pub(crate) fn reasons() -> [Reason; 5]
+pub(crate) fn reasons() -> [Reason; 6]
     ensures { result
-        ≡ Stuck ∷ Alike ByKind ∷ NoWay ∷ Alike ByThread ∷ Alike BySegment ∷ [] }
+        ≡ Through ∷ Stuck ∷ Alike ByKind ∷ NoWay ∷ Alike ByThread ∷ Alike BySegment ∷ [] }
 {
     [
+        Reason::Through,
         Reason::Stuck,
         Reason::Alike(Grain::ByKind),
         Reason::NoWay,
@@ -123,11 +126,29 @@ impl Sought<'_> {
         self.leave_out(alloc, reason, part, kept)
     }
 
-    // Leaves out edges beside which none may stand, and then those that lie on no loop any more, a few times while there are
-    // any.
-    fn leave_out_stuck_in_turns(
+    // Leaves out edges for the first reason or the second one, while so many may still be looked at.
+    fn leave_out_soon(
         &self,
         alloc: Global,
+        reason: Reason,
+        looks: &mut usize,
+        kept: &mut Vec<bool>,
+    ) -> Result<(), Memory>
+        requires { KeepsSought self.now kept.old.items }
+        ensures { OnOk result (GoesOnSeeking self.now kept.old.items kept.new.items) }
+    {
+        match reason {
+            Reason::Through => self.leave_out_through(alloc, looks, kept),
+            _ => self.leave_out_stuck(alloc, looks, kept),
+        }
+    }
+
+    // Leaves out edges for the first reason or the second one, and then those that lie on no loop any more, a few times while there are
+    // any.
+    fn leave_out_in_turns(
+        &self,
+        alloc: Global,
+        reason: Reason,
         effort: usize,
         kept: &mut Vec<bool>,
     ) -> Result<(), Memory>
@@ -137,7 +158,7 @@ impl Sought<'_> {
         let mut looks = effort.saturating_mul(LOOKS).min(MOST_LOOKS);
         for _turn in 0..TURNS {
             let before = count_set(kept);
-            self.leave_out_stuck(alloc, &mut looks, kept)?;
+            self.leave_out_soon(alloc, reason, &mut looks, kept)?;
             if count_set(kept) == before {
                 return Ok(());
             }
@@ -158,7 +179,9 @@ impl Sought<'_> {
         ensures { OnOk result (GoesOnSeeking self.now kept.old.items kept.new.items) }
     {
         match reason {
-            Reason::Stuck => self.leave_out_stuck_in_turns(alloc, part.share_of(ALL_EFFORT), kept),
+            Reason::Through | Reason::Stuck => {
+                self.leave_out_in_turns(alloc, reason, part.share_of(ALL_EFFORT), kept)
+            }
             Reason::Alike(grain) => self.leave_out_alike(alloc, grain, part, kept),
             Reason::NoWay => self.leave_out_without_way(alloc, part, kept),
         }

@@ -1,31 +1,32 @@
-//! Edges whose way back leads through edges of their own thread.
+//! Edges whose way back leads through others of their owner.
 //!
-//! A cycle has one edge of a thread at most. So where one thread alone joins parts of the lock-order graph, as one that works
-//! for modules which know nothing of each other, its edges have no way back without others of its own. This is seen at once for all
-//! its edges that want one lock: locks are labelled by how many edges of other threads it takes to get there from that one.
-ghost use Rattle.std.specs.Prelude.{◌≡◌, ◌≢◌, ◌+◌, ◌<◌, ◌≤◌, Some, true, false, length, slice_get, IsTrue, OnOk};
+//! A cycle has one edge of an [owner](crate::owners) at most. So where one thread alone joins parts of the lock-order graph, as one
+//! that works for modules which know nothing of each other, its edges have no way back without others of its own; and where all edges
+//! of a module are made under one lock, none of them has. This is seen at once for all edges of an owner, by labels of locks that
+//! don't grow along those of others.
+ghost use Rattle.std.specs.Prelude.{◌≡◌, ◌+◌, ◌<◌, ◌≤◌, Some, true, false, length, slice_get, IsTrue, OnOk};
 ghost use Rattle.gl_edges.specs.declared.edge.Edge.{Edge};
 ghost use Rattle.gl_filters.specs.Picked.{edges_of_table};
 ghost use Rattle.gl_pruning.specs.Sought.{KeepsSought, GoesOnSeeking};
+ghost use Rattle.gl_pruning.specs.bodies.Owners.{IsOwned};
 ghost use Rattle.gl_pruning.specs.bodies.Walks.{IsNumbered, label_at, GrowWithout};
 
 use crate::far::is_far;
 use crate::no_way::is_leap;
-use crate::numbers::Ends;
-use crate::parts::Part;
+use crate::numbers::{Ends, Numbers};
+use crate::owners::{Graph, Owner};
 use crate::sought::Sought;
-use crate::ways::Ways;
-use gl_event::{Memory, ThreadId};
+use gl_event::Memory;
 use std::alloc::Global;
 
-// How much of the effort for ways back goes into those without a thread.
-const SHARE: usize = 4;
+// How many times each pair of locks is looked at for an owner, and each edge where some of the owner's may go.
+const LOOKS: usize = 4;
 
 impl Sought<'_> {
-    // Whether the edge at a position is kept and of another thread, and the label of a lock grows by more than one along it.
+    // Whether the edge at a position is kept and others have it, and the label of a lock grows by more than one along it.
     fn is_leap_without(
         &self,
-        thread: ThreadId,
+        owner: &Owner,
         ends: Ends,
         is_kept: bool,
         labels: &[usize],
@@ -33,20 +34,20 @@ impl Sought<'_> {
     ) -> bool
         requires { i < length self.now.table.now }
         ensures { (e : Edge) → slice_get (edges_of_table self.now.table.now) i ≡ Some e
-            → is_kept ≡ true → e.thread ≢ thread
+            → is_kept ≡ true → ¬ IsOwned self.now.mode owner.now e
             → result ≡ false → label_at labels.now ends.wanted
             ≤ label_at labels.now ends.held + 1 }
     {
         if !is_kept || !is_leap(labels, ends) {
             return false;
         }
-        self.table[i].0.thread != thread
+        !owner.has(self.mode, &self.table[i].0)
     }
 
-    // Whether the label of a lock grows by one at the most along each edge of another thread that is kept.
+    // Whether the label of a lock grows by one at the most along each edge that is kept and that others have.
     fn grow_by_one_without(
         &self,
-        thread: ThreadId,
+        owner: &Owner,
         ends: &[Ends],
         kept: &[bool],
         labels: &[usize],
@@ -54,21 +55,21 @@ impl Sought<'_> {
         requires flags { length kept.now ≡ length self.now.table.now }
         requires ended { length ends.now ≡ length self.now.table.now }
         ensures { IsTrue result
-            → GrowWithout thread (edges_of_table self.now.table.now) kept.now ends.now
-            labels.now }
+            → GrowWithout self.now.mode owner.now (edges_of_table self.now.table.now) kept.now
+            ends.now labels.now }
     {
         for i in 0..self.table.len() {
-            if self.is_leap_without(thread, ends[i], kept[i], labels, i) {
+            if self.is_leap_without(owner, ends[i], kept[i], labels, i) {
                 return false;
             }
         }
         true
     }
 
-    // Leaves out the edge at a position, if it is of the thread and the labels show that it is too far.
+    // Leaves out the edge at a position, if it is one of the owner's and the labels show that it is too far.
     fn leave_out_if_far_without(
         &self,
-        thread: ThreadId,
+        owner: &Owner,
         ends: &[Ends],
         labels: &[usize],
         kept: &mut Vec<bool>,
@@ -78,22 +79,22 @@ impl Sought<'_> {
         requires kept { KeepsSought self.now kept.old.items }
         requires ended { length ends.now ≡ length self.now.table.now }
         requires numbered { IsNumbered (edges_of_table self.now.table.now) ends.now }
-        requires grow { GrowWithout thread (edges_of_table self.now.table.now) kept.old.items
-            ends.now labels.now }
+        requires grow { GrowWithout self.now.mode owner.now (edges_of_table self.now.table.now)
+            kept.old.items ends.now labels.now }
         ensures goes_on { GoesOnSeeking self.now kept.old.items kept.new.items }
-        ensures grow { GrowWithout thread (edges_of_table self.now.table.now) kept.new.items
-            ends.now labels.now }
+        ensures grow { GrowWithout self.now.mode owner.now (edges_of_table self.now.table.now)
+            kept.new.items ends.now labels.now }
     {
-        if self.table[x].0.thread == thread && is_far(ends, labels, x, self.len) {
+        if is_far(ends, labels, x, self.len) && owner.has(self.mode, &self.table[x].0) {
             kept[x] = false;
         }
     }
 
-    // Leaves out each edge of the thread of which the labels show that it is too far. They show it of none where the label of a
-    // lock grows by more than one along an edge of another thread that is kept.
+    // Leaves out each edge of the owner of which the labels show that it is too far. They show it of none where the label of a
+    // lock grows by more than one along an edge that is kept and that others have.
     fn leave_out_by_labels_without(
         &self,
-        thread: ThreadId,
+        owner: &Owner,
         ends: &[Ends],
         labels: &[usize],
         kept: &mut Vec<bool>,
@@ -103,23 +104,23 @@ impl Sought<'_> {
         requires numbered { IsNumbered (edges_of_table self.now.table.now) ends.now }
         ensures { GoesOnSeeking self.now kept.old.items kept.new.items }
     {
-        if !self.grow_by_one_without(thread, ends, kept, labels) {
+        if !self.grow_by_one_without(owner, ends, kept, labels) {
             return;
         }
         for x in 0..self.table.len() {
-            self.leave_out_if_far_without(thread, ends, labels, kept, x);
+            self.leave_out_if_far_without(owner, ends, labels, kept, x);
         }
     }
 
-    /// Leaves out edges that have no way back without others of their own thread, for a part of the threads and the locks that they
-    /// want, within a share of so much effort.
-    pub(crate) fn leave_out_far_without(
+    // Leaves out edges of the owner that have no way back along those of others, by one of two kinds of labels.
+    fn leave_out_one_way(
         &self,
         alloc: Global,
-        part: Part,
-        ways: &mut Ways,
-        budget: usize,
+        graph: &Graph,
+        owner: &Owner,
+        is_back: bool,
         ends: &[Ends],
+        looks: &mut usize,
         kept: &mut Vec<bool>,
     ) -> Result<(), Memory>
         requires kept { KeepsSought self.now kept.old.items }
@@ -127,32 +128,57 @@ impl Sought<'_> {
         requires numbered { IsNumbered (edges_of_table self.now.table.now) ends.now }
         ensures { OnOk result (GoesOnSeeking self.now kept.old.items kept.new.items) }
     {
-        let wants = self.wants(alloc, ends, kept)?;
-        let mut budget = budget / SHARE;
-        for i in 0..wants.len() {
-            let (thread, lock) = wants[i];
-            if part.has(i) && ways.label_without(self, thread, lock, &mut budget)? {
-                self.leave_out_by_labels_without(thread, ends, &ways.labels, kept);
-            }
+        let labels = graph.labels_without(alloc, owner, is_back, self.len)?;
+        *looks = looks.saturating_sub(graph.count().saturating_mul(LOOKS));
+        if !graph.has_fall(owner, &labels) {
+            return Ok(());
         }
+        *looks = looks.saturating_sub(self.table.len().saturating_mul(LOOKS));
+        self.leave_out_by_labels_without(owner, ends, &labels, kept);
         Ok(())
     }
 
-    // Each thread with each lock that an edge of it wants that is kept, by the lock's number.
-    fn wants(
+    // Leaves out edges of the owner that have no way back along those of others, by both kinds of labels, where edges may still
+    // be looked at.
+    fn leave_out_without_others(
         &self,
         alloc: Global,
+        graph: &Graph,
+        owner: &Owner,
         ends: &[Ends],
-        kept: &[bool],
-    ) -> Result<Vec<(ThreadId, usize)>, Memory> {
-        let mut wants = Vec::new(alloc);
-        for ((edge, _), (ends, &is_kept)) in self.table.iter().zip(ends.iter().zip(kept)) {
-            if is_kept {
-                wants.push((edge.thread, ends.wanted))?;
-            }
+        looks: &mut usize,
+        kept: &mut Vec<bool>,
+    ) -> Result<(), Memory>
+        requires kept { KeepsSought self.now kept.old.items }
+        requires ended { length ends.now ≡ length self.now.table.now }
+        requires numbered { IsNumbered (edges_of_table self.now.table.now) ends.now }
+        ensures { OnOk result (GoesOnSeeking self.now kept.old.items kept.new.items) }
+    {
+        if *looks == 0 {
+            return Ok(());
         }
-        wants.sort_unstable();
-        wants.dedup();
-        Ok(wants)
+        self.leave_out_one_way(alloc, graph, owner, false, ends, looks, kept)?;
+        self.leave_out_one_way(alloc, graph, owner, true, ends, looks, kept)
+    }
+
+    /// Leaves out edges whose way back leads through others of their owner, for each owner who alone joins locks, while so many edges
+    /// may still be looked at.
+    pub(crate) fn leave_out_through(
+        &self,
+        alloc: Global,
+        looks: &mut usize,
+        kept: &mut Vec<bool>,
+    ) -> Result<(), Memory>
+        requires { KeepsSought self.now kept.old.items }
+        ensures { OnOk result (GoesOnSeeking self.now kept.old.items kept.new.items) }
+    {
+        let numbers = Numbers::of(alloc, self.table)?;
+        let ends = numbers.of_edges(alloc, self.table)?;
+        let graph = Graph::of(alloc, self, &ends, numbers.count(), kept)?;
+        let owners = graph.sole_owners(alloc)?;
+        for owner in owners.iter() {
+            self.leave_out_without_others(alloc, &graph, owner, &ends, looks, kept)?;
+        }
+        Ok(())
     }
 }

@@ -3,23 +3,16 @@
 //! Locks are labelled by how many edges it takes to get there, breadth first. Nothing of this is
 //! proved, and nothing relies on it but for speed: labels are checked. So a number that is out of
 //! range, which none is, is passed over, and the search may stop at any time.
+use crate::links::{Link, links_of};
 use crate::numbers::Ends;
 use crate::sought::Sought;
 use gl_edges::Edge;
-use gl_event::{Memory, ThreadId};
+use gl_event::Memory;
 use gl_filters::goes_with;
 use std::alloc::Global;
 
 // How many edges are labelled, and looked at by their labels, for the price of one whose guards are.
 const LOOKS: usize = 4;
-
-// An edge of the lock-order graph, between numbers of locks.
-#[derive(Clone, Copy, Debug, PartialEq, Eq, PartialOrd, Ord)]
-struct Link {
-    held: usize,
-    wanted: usize,
-    position: usize,
-}
 
 /// What a search for ways back goes along, and the labels that the last one left.
 #[derive(Drop)]
@@ -116,58 +109,6 @@ impl Ways {
         Ok(true)
     }
 
-    /// The same, but by edges of other threads than this one.
-    pub(crate) fn label_without(
-        &mut self,
-        sought: &Sought<'_>,
-        thread: ThreadId,
-        lock: usize,
-        budget: &mut usize,
-    ) -> Result<bool, Memory> {
-        if *budget == 0 || self.is_wanted.get(lock) != Some(&true) {
-            return Ok(false);
-        }
-        *budget = budget.saturating_sub(self.links.len() / LOOKS + 1);
-        self.forget(sought.len);
-        self.reach(lock, 0)?;
-        for turn in 0..self.labels.len() {
-            let Some(&lock) = self.reached.get(turn) else {
-                break;
-            };
-            let distance = self.label(lock).saturating_add(1);
-            if distance >= sought.len {
-                break;
-            }
-            self.reach_without(sought, thread, lock, distance)?;
-        }
-        Ok(true)
-    }
-
-    // Comes to each lock that is one edge of another thread on from this one.
-    fn reach_without(
-        &mut self,
-        sought: &Sought<'_>,
-        thread: ThreadId,
-        lock: usize,
-        distance: usize,
-    ) -> Result<(), Memory> {
-        let Some(first) = self.first.get(lock).copied().flatten() else {
-            return Ok(());
-        };
-        for i in first..self.links.len() {
-            let Some(&link) = self.links.get(i) else {
-                break;
-            };
-            if link.held != lock {
-                break;
-            }
-            if self.label(link.wanted) >= sought.len && is_of_another(sought, link, thread) {
-                self.reach(link.wanted, distance)?;
-            }
-        }
-        Ok(())
-    }
-
     // Comes to each lock that is one edge on from this one.
     fn reach_from(&mut self, far: usize, lock: usize, distance: usize) -> Result<(), Memory> {
         let Some(first) = self.first.get(lock).copied().flatten() else {
@@ -253,22 +194,6 @@ impl Ways {
     }
 }
 
-// The edges that are kept, by held lock and then by wanted lock.
-fn links_of(alloc: Global, ends: &[Ends], kept: &[bool]) -> Result<Vec<Link>, Memory> {
-    let mut links = Vec::new(alloc);
-    for (position, (ends, &is_kept)) in ends.iter().zip(kept).enumerate() {
-        if is_kept {
-            links.push(Link {
-                held: ends.held,
-                wanted: ends.wanted,
-                position,
-            })?;
-        }
-    }
-    links.sort_unstable();
-    Ok(links)
-}
-
 // For each lock where its links begin.
 fn first_links(alloc: Global, links: &[Link], locks: usize) -> Result<Vec<Option<usize>>, Memory> {
     let mut first = vec![in alloc; None; locks]?;
@@ -289,14 +214,6 @@ fn wanted_by(alloc: Global, links: &[Link], locks: usize) -> Result<Vec<bool>, M
         }
     }
     Ok(is_wanted)
-}
-
-// Whether the link's edge is of another thread than this one.
-fn is_of_another(sought: &Sought<'_>, link: Link, thread: ThreadId) -> bool {
-    match sought.table.get(link.position) {
-        Some((edge, _)) => edge.thread != thread,
-        None => true,
-    }
 }
 
 // Whether the link's edge is kept and goes with this one.

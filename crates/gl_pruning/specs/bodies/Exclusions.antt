@@ -1,19 +1,17 @@
 -- Edges that exclude each other: no two stand in a cycle together.
-use Rattle.std.specs.Prelude.{◌≡◌, ℕ, Bool, true, List, slice_get, Some, Contains}
-use Rattle.gl_event.specs.declared.events.LockMode.TheVariants.{Exclusive}
+use Rattle.std.specs.Prelude.{◌≡◌, ℕ, Bool, true, List, slice_get, Some}
 use Rattle.gl_edges.specs.declared.edge.Edge.{Edge}
-use Rattle.gl_filters.specs.Cycle.{asks_guards}
 use Rattle.gl_filters.specs.declared.query.Mode.{Mode}
 use Rattle.gl_pruning.specs.declared.exclusions.Exclusion.{Exclusion}
 use Rattle.gl_pruning.specs.declared.exclusions.Exclusion.TheVariants.{InTurn, UnderLock}
 use Rattle.gl_pruning.specs.declared.turns.Turn.{Turn}
+use Rattle.gl_pruning.specs.bodies.Owners.{IsUnder}
 use Rattle.gl_pruning.specs.bodies.Turns.{chain_of}
 
 -- the edge is one of those that exclude each other
 abbrev pub IsExcluded : Mode → List Turn → Exclusion → Edge → Type 0
 IsExcluded mode turns (InTurn chain) e = chain_of turns e.thread ≡ Some chain
-IsExcluded mode turns (UnderLock lock) e =
-    (asks_guards mode ≡ true) × Contains e.guards (record { lock = lock; mode = Exclusive })
+IsExcluded mode turns (UnderLock lock) e = IsUnder mode lock e
 
 -- one of these has the edge
 pub record IsOneOf (mode : Mode) (turns : List Turn) (exclusions : List Exclusion)

@@ -1,10 +1,12 @@
 -- Ways back: walks from the lock that an edge wants to the lock that it holds, and labels of locks, which show that there is none.
-use Rattle.std.specs.Prelude.{◌≡◌, ◌≢◌, ℕ, ◌+◌, ◌≤◌, Bool, true, List, map, slice_get, Some, unwrap_or}
+use Rattle.std.specs.Prelude.{◌≡◌, ℕ, ◌+◌, ◌≤◌, Bool, true, List, map, slice_get, Some, unwrap_or}
 use Rattle.gl_event.specs.declared.events.Segment.{Segment}
 use Rattle.gl_edges.specs.declared.edge.Edge.{Edge}
 use Rattle.gl_filters.specs.declared.query.Mode.{Mode}
 use Rattle.gl_filters.specs.Test.{goes_with}
 use Rattle.gl_pruning.specs.declared.numbers.Ends.{Ends}
+use Rattle.gl_pruning.specs.declared.owners.Owner.{Owner}
+use Rattle.gl_pruning.specs.bodies.Owners.{IsOwned}
 
 -- the numbers of the locks of an edge
 abbrev pub ends_in : (ℕ → ℕ) → Edge → Ends
@@ -28,11 +30,11 @@ GrowByOne kept ends labels =
     (i : ℕ) (d : Ends) → slice_get kept i ≡ Some true → slice_get ends i ≡ Some d
     → label_at labels d.wanted ≤ label_at labels d.held + 1
 
--- so it does along each edge of another thread than this one
-abbrev pub GrowWithout : ℕ → List Edge → List Bool → List Ends → List ℕ → Type 0
-GrowWithout thread edges kept ends labels =
+-- so it does along each edge that isn't one of the owner's
+abbrev pub GrowWithout : Mode → Owner → List Edge → List Bool → List Ends → List ℕ → Type 0
+GrowWithout mode owner edges kept ends labels =
     (i : ℕ) (e : Edge) (d : Ends) → slice_get kept i ≡ Some true → slice_get edges i ≡ Some e
-    → slice_get ends i ≡ Some d → e.thread ≢ thread
+    → slice_get ends i ≡ Some d → ¬ IsOwned mode owner e
     → label_at labels d.wanted ≤ label_at labels d.held + 1
 
 -- a certificate: along each edge that is kept and goes with the one at x the label of a lock grows by one at the most, and from the

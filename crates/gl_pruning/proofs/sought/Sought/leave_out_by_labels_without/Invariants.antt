@@ -3,10 +3,10 @@ use Rattle.gl_pruning.specs.Sought.{GoesOnSeeking}
 use Rattle.gl_pruning.specs.bodies.Walks.{GrowWithout}
 use Rattle.gl_pruning.proofs.sought.Sought.leave_out_by_labels_without.Given as goal
 
--- so far only edges that are in no cycle were left out, none came back, and the labels still grow by one along those of other threads
--- that are kept
+-- so far only edges that are in no cycle were left out, none came back, and the labels still grow by one along those that are kept and
+-- that others have
 abbrev pub invariant-loop-x : goal.invariant-loop-x
 invariant-loop-x l = record {
   goes_on : GoesOnSeeking l.self l.fn.kept.items l.kept.items;
-  grow : GrowWithout l.thread (edges_of_table l.self.table.now) l.kept.items l.ends l.labels;
+  grow : GrowWithout l.self.mode l.owner (edges_of_table l.self.table.now) l.kept.items l.ends l.labels;
 }

@@ -1,18 +1,18 @@
-use Rattle.std.proofs.Common.{◌≡◌, ◌<◌, length, sym, ap, ◌∙◌, arith}
-use Rattle.std.proofs.lemmas.Bool.{eqb-true, false≢true}
+use Rattle.std.proofs.Common.{◌<◌, length, sym, subst, ◌∙◌, arith}
+use Rattle.std.proofs.lemmas.Bool.{false≢true}
 use Rattle.std.proofs.lemmas.List.{length-map}
-use Rattle.gl_edges.specs.declared.edge.Edge.{Edge}
 use Rattle.gl_segments.specs.Clocks.{is_before}
 use Rattle.gl_filters.specs.Picked.{edges_of_table}
 use Rattle.gl_pruning.proofs.Back.{off_without_way, keeps_more}
 use Rattle.gl_pruning.proofs.ByKinds.{edge_is}
-use Rattle.gl_pruning.proofs.Cut.{apart_in_thread}
 use Rattle.gl_pruning.proofs.Fewer.{stay_out_at, was_set}
+use Rattle.gl_pruning.proofs.Owned.{owned_apart}
+use Rattle.gl_pruning.specs.bodies.Owners.{IsOwned}
 use Rattle.gl_pruning.proofs.sought.Sought.leave_out_if_far_without.Goals as goal
 
--- it is too far: none of the edges that go with it is of its thread
-pub returns-then-is_far : goal.returns-then-is_far
-returns-then-is_far c =
+-- it is too far: none of the edges that go with it is of its owner
+pub returns-then-has : goal.returns-then-has
+returns-then-has c =
     let s = c.args.self.now in
     let edges = edges_of_table s.table.now in
     let kept = c.args.kept.now.items in
@@ -24,10 +24,10 @@ returns-then-is_far c =
       far = c.is_far.ensures c.if-is_far.true;
       near = λ i e f d at flag ends_at at_x goes.
           c.requires.grow i e d flag at ends_at
-          (λ same.
+          (λ has_e.
           let is = edge_is s.table.now c.index-self-x.result c.args.x f c.requires.there at_x in
-          let own : f.thread ≡ c.args.thread = ap (λ (g : Edge). g.thread) is ∙ eqb-true _ _ (sym c.eq.ensures ∙ c.if-eq.true) in
-          false≢true (sym (apart_in_thread (is_before s.order.now) s.mode e f (same ∙ sym own)) ∙ goes));
+          let has_f = subst (IsOwned s.mode c.args.owner.now) (sym is) (c.has.ensures c.if-has.true) in
+          false≢true (sym (owned_apart (is_before s.order.now) s.mode c.args.owner.now e f has_e has_f) ∙ goes));
     })
     in record {
       goes_on = record { keeps = keeps; stay = stay_out_at kept c.args.x within };

@@ -1,5 +1,5 @@
 use Rattle.gl_pruning.specs.Sought.{GoesOnSeeking}
-use Rattle.gl_pruning.proofs.sought.Sought.leave_out_stuck_in_turns.Given as goal
+use Rattle.gl_pruning.proofs.sought.Sought.leave_out_in_turns.Given as goal
 
 -- so far only edges that are in no cycle were left out, and none came back
 abbrev pub invariant-loop-turn : goal.invariant-loop-turn
