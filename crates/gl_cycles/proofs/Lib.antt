@@ -13,3 +13,4 @@ pub mod RootByRoot
 pub mod TrimsSpareCycles
 pub mod RootsJoined
 pub mod NoLonger
+pub mod WithinLimits

@@ -30,11 +30,11 @@ upto-each f g (suc n) same =
     ∙ sym (ap (upto g) e ∙ upto-more g n)
 
 module _ (before : Segment → Segment → Bool) (mode : Mode) (edges : List Edge) where
-  abbrev Within : List ℕ → Type 0
+  abbrev pub Within : List ℕ → Type 0
   Within rest = All (λ i. i < length edges) rest
 
   -- no cycle begins so
-  abbrev NoneFrom : ℕ → ℕ → List ℕ → Type 0
+  abbrev pub NoneFrom : ℕ → ℕ → List ℕ → Type 0
   NoneFrom m n front = (rest : List ℕ) → length rest ≤ n → Within rest → m < length rest → is_cycle before mode (picked edges (front ++ rest)) ≡ false
 
   -- one position more
@@ -50,7 +50,7 @@ module _ (before : Segment → Segment → Bool) (mode : Mode) (edges : List Edg
       (λ rest there. let from = lists_from (length edges) n rest there in none rest from.0 from.1)
 
   -- what is too long for a cycle needn't be looked at
-  block-shorter : (m n : ℕ) (front : List ℕ) → m ≤ n → NoneFrom m n front → block before mode edges n front ≡ block before mode edges m front
+  pub block-shorter : (m n : ℕ) (front : List ℕ) → m ≤ n → NoneFrom m n front → block before mode edges n front ≡ block before mode edges m front
   block-shorter zero zero front le none = refl
   block-shorter zero (suc n) front le none =
       block-suc before mode edges n front

@@ -8,7 +8,7 @@ ghost use Rattle.gl_filters.specs.Picked.{edges_of_table, picked};
 ghost use Rattle.gl_cycles.specs.Cycles.{cycles_in};
 ghost use Rattle.gl_cycles.specs.AllCycles.{all_cycles};
 ghost use Rattle.gl_pruning.specs.Sought.{KeepsSought};
-ghost use Rattle.gl_cycles.specs.bodies.Searching.{CanFinish, IsReady, HasFound, HasGrown, all_from, first_from, sought_by};
+ghost use Rattle.gl_cycles.specs.bodies.Searching.{CanFinish, IsReady, HasFound, HasGrown, HasLimit, HasLimits, all_from, first_from, limited, sought_by};
 ghost use Rattle.gl_filters.specs.declared.steps.Stop.TheVariants.{Memory};
 ghost use Rattle.gl_edges.specs.declared.edge.Edge.{Edge};
 
@@ -32,6 +32,8 @@ pub(crate) struct Searcher<'a> {
     index: Followers,
     // how many edges a cycle may have
     len: usize,
+    // how many it has at most, by the edge that it begins with, where that is known
+    limits: Option<Vec<usize>>,
     // how many cycles are looked for: one more than are listed
     pub(crate) cap: usize,
     // whether the search ends where its steps are taken
@@ -40,16 +42,18 @@ pub(crate) struct Searcher<'a> {
 
 impl<'a> Searcher<'a> {
     // The search for what is sought, up to a cap, among edges of which those that aren't kept are in
-    // no cycle.
+    // no cycle, and none is in one that is longer than its limit.
     pub(crate) fn of(
         alloc: Global,
         sought: &Sought<'a>,
         cap: usize,
         is_bound: bool,
         kept: Vec<bool>,
+        limits: Option<Vec<usize>>,
     ) -> Result<Searcher<'a>, Memory>
         requires fits { sought.now.len ≤ LONGEST }
         requires kept { KeepsSought sought.now kept.items }
+        requires limited { IfSome limits (λ limits. HasLimits sought.now limits.items) }
         ensures ready { IfOk result IsReady }
         ensures sought { IfOk result (λ s. sought_by s ≡ sought.now) }
         ensures cap { IfOk result (λ s. s.cap ≡ cap) }
@@ -63,6 +67,7 @@ impl<'a> Searcher<'a> {
             kept,
             index,
             len: sought.len,
+            limits,
             cap,
             is_bound,
         })
@@ -283,6 +288,19 @@ impl Searcher<'_> {
         }
     }
 
+    // How many edges a cycle has at most that begins with the edge at a position.
+    fn limit(&self, root: usize) -> usize
+        requires some { 0 < self.now.len }
+        requires there { root < length self.now.table.now }
+        requires ready { IsReady self.now }
+        ensures { HasLimit (sought_by self.now) root result }
+    {
+        match &self.limits {
+            Some(limits) => limits[root],
+            None => self.len,
+        }
+    }
+
     // Adds the cycles that begin with the edge at a position, up to the cap.
     fn grow_from(
         &self,
@@ -301,26 +319,27 @@ impl Searcher<'_> {
         if !self.kept[root] {
             return Ok(());
         }
-        self.grow(alloc, &[root], steps, found)
+        self.grow(alloc, self.limit(root), &[root], steps, found)
     }
 
-    // Adds the cycles that begin with the path, up to the cap.
+    // Adds the cycles that begin with the path, of so many edges at most, up to the cap.
     #[cycle(grow)]
     fn grow(
         &self,
         alloc: Global,
+        limit: usize,
         path: &[usize],
         steps: &mut usize,
         found: &mut Vec<Vec<usize>>,
     ) -> Result<(), Stop>
         requires some { 0 < length path.now }
-        requires short { length path.now ≤ self.now.len }
+        requires short { length path.now ≤ limit }
         requires within { All (λ i. i < length self.now.table.now) path.now }
         requires is_path { is_path (is_before self.now.order.now) self.now.mode
             (picked (edges_of_table self.now.table.now) path.now) ≡ true }
-        requires ready { IsReady self.now }
+        requires ready { IsReady (limited self.now limit) }
         requires room { length found.old.items ≤ self.now.cap }
-        ensures { HasGrown self.now path.now (cycles_in found.old.items)
+        ensures { HasGrown (limited self.now limit) path.now (cycles_in found.old.items)
             (cycles_in found.new.items) result }
     {
         if found.len() >= self.cap {
@@ -330,16 +349,16 @@ impl Searcher<'_> {
             keep_closed(alloc, path, found)?;
             return Ok(());
         }
-        if path.len() == self.len {
+        if path.len() == limit {
             return Ok(());
         }
-        if path.len() + 1 == self.len {
-            return self.close(alloc, path, steps, found);
+        if path.len() + 1 == limit {
+            return self.close(alloc, limit, path, steps, found);
         }
         let last = path[path.len() - 1];
         let mut next = self.index.begin(last);
         while let Some(i) = next {
-            self.grow_by(alloc, path, i, steps, found)?;
+            self.grow_by(alloc, limit, path, i, steps, found)?;
             next = self.index.after(i);
         }
         Ok(())
@@ -350,20 +369,21 @@ impl Searcher<'_> {
     fn close(
         &self,
         alloc: Global,
+        limit: usize,
         path: &[usize],
         steps: &mut usize,
         found: &mut Vec<Vec<usize>>,
     ) -> Result<(), Stop>
         requires some { 0 < length path.now }
-        requires one_left { length path.now + 1 ≡ self.now.len }
+        requires one_left { length path.now + 1 ≡ limit }
         requires within { All (λ i. i < length self.now.table.now) path.now }
         requires is_path { is_path (is_before self.now.order.now) self.now.mode
             (picked (edges_of_table self.now.table.now) path.now) ≡ true }
         requires unclosed { leads_back (picked (edges_of_table self.now.table.now) path.now)
             ≡ false }
-        requires ready { IsReady self.now }
+        requires ready { IsReady (limited self.now limit) }
         requires room { length found.old.items ≤ self.now.cap }
-        ensures { HasGrown self.now path.now (cycles_in found.old.items)
+        ensures { HasGrown (limited self.now limit) path.now (cycles_in found.old.items)
             (cycles_in found.new.items) result }
     {
         let first = path[0];
@@ -371,7 +391,7 @@ impl Searcher<'_> {
         let closers = &self.index.closers;
         let mut next = closers.begin(self.table[last].0.wanted, self.table[first].0.held);
         while let Some(i) = next {
-            self.grow_by(alloc, path, i, steps, found)?;
+            self.grow_by(alloc, limit, path, i, steps, found)?;
             next = closers.after(i);
         }
         Ok(())
@@ -382,20 +402,21 @@ impl Searcher<'_> {
     fn grow_by(
         &self,
         alloc: Global,
+        limit: usize,
         path: &[usize],
         next: usize,
         steps: &mut usize,
         found: &mut Vec<Vec<usize>>,
     ) -> Result<(), Stop>
         requires some { 0 < length path.now }
-        requires short { length path.now < self.now.len }
+        requires short { length path.now < limit }
         requires within { All (λ i. i < length self.now.table.now) path.now }
         requires there { next < length self.now.table.now }
         requires is_path { is_path (is_before self.now.order.now) self.now.mode
             (picked (edges_of_table self.now.table.now) path.now) ≡ true }
-        requires ready { IsReady self.now }
+        requires ready { IsReady (limited self.now limit) }
         requires room { length found.old.items ≤ self.now.cap }
-        ensures { HasGrown self.now (path.now ++ next ∷ [])
+        ensures { HasGrown (limited self.now limit) (path.now ++ next ∷ [])
             (cycles_in found.old.items) (cycles_in found.new.items) result }
     {
         spend_step(self.is_bound, steps)?;
@@ -406,7 +427,7 @@ impl Searcher<'_> {
             return Ok(());
         }
         let longer = longer_path(path, next);
-        self.grow(alloc, longer.as_slice(), steps, found)
+        self.grow(alloc, limit, longer.as_slice(), steps, found)
     }
 }
 

@@ -9,19 +9,22 @@
 //! then, edges are left out with about as much effort, and the search goes on at the root where it
 //! stood, among those that stay, with several times the steps: a round. What was found stays, since what is left out is in no cycle.
 //!
+//! From the second round on it is asked of each edge how long a cycle with it can be: in some parts of the lock-order graph none may be longer
+//! than a few edges.
+//!
 //! In each round edges are left out for one reason after the other. Before the last round the efforts
 //! are bound, so what comes too dear is tried again. In the last one edges are left out with all the
 //! effort that each reason makes at most, and again as long as that leaves out many, and the search then goes on to its end, on
 //! several threads if there are any. But where a round found a good part of the cycles that are looked for, the next ones only have
 //! more steps: the search is on its way. Where there are, a round's steps are bound, as it goes on in one thread: what needs more
 //! is dealt out.
-ghost use Rattle.std.specs.Prelude.{◌≡◌, ◌<◌, ◌≤◌, ◌*◌, ◌-◌, ◌^◌, min, max, take, IfOk, OnOk};
+ghost use Rattle.std.specs.Prelude.{◌≡◌, ◌<◌, ◌≤◌, ◌*◌, ◌-◌, ◌^◌, min, max, take, IfOk, IfSome, OnOk};
 ghost use Rattle.gl_segments.specs.Clocks.{is_before};
 ghost use Rattle.gl_filters.specs.Picked.{edges_of_table};
 ghost use Rattle.gl_cycles.specs.Cycles.{cycles_in};
 ghost use Rattle.gl_cycles.specs.AllCycles.{all_cycles};
 ghost use Rattle.gl_pruning.specs.Sought.{KeepsSought};
-ghost use Rattle.gl_cycles.specs.bodies.Searching.{HasFound};
+ghost use Rattle.gl_cycles.specs.bodies.Searching.{HasFound, HasLimits};
 ghost use Rattle.gl_filters.specs.declared.lengths.TheConstants.{LONGEST};
 
 use crate::parallel;
@@ -104,19 +107,40 @@ fn search_on(
     cap: usize,
     effort: usize,
     kept: &[bool],
+    limits: Option<Vec<usize>>,
     from: usize,
     found: &mut Vec<Vec<usize>>,
 ) -> Result<usize, Memory>
     requires some { 0 < sought.now.len }
     requires fits { sought.now.len ≤ LONGEST }
     requires kept { KeepsSought sought.now kept.now }
+    requires limited { IfSome limits (λ limits. HasLimits sought.now limits.items) }
     requires found { HasFound sought.now cap from (cycles_in found.old.items) }
     ensures { IfOk result
         (λ to. HasFound sought.now cap to (cycles_in found.new.items)) }
 {
     let kept = Vec::from_slice(alloc, kept)?;
-    let search = Searcher::of(alloc, sought, cap, true, kept)?;
+    let search = Searcher::of(alloc, sought, cap, true, kept, limits)?;
     search.go_on(alloc, effort, from, found)
+}
+
+// For each edge how many edges a cycle with it has at most, in a round. The first one doesn't ask: most searches end there.
+fn limits_in(
+    alloc: Global,
+    sought: &Sought<'_>,
+    round: usize,
+    kept: &[bool],
+) -> Result<Option<Vec<usize>>, Memory>
+    requires some { 0 < sought.now.len }
+    requires kept { KeepsSought sought.now kept.now }
+    ensures { IfOk result
+        (λ limits. IfSome limits (λ limits. HasLimits sought.now limits.items)) }
+{
+    if round == 0 {
+        return Ok(None);
+    }
+    let limits = sought.limits_by_edge(alloc, kept)?;
+    Ok(Some(limits))
 }
 
 // Whether a search that has found so many cycles up to a cap is near its end: then it goes on as it is.
@@ -151,6 +175,7 @@ fn search_in_rounds(
             cap,
             steps_within(round, steps, most),
             kept,
+            limits_in(alloc, sought, round, kept)?,
             root,
             found,
         )?;
@@ -209,7 +234,8 @@ fn first_among(
         return Ok(found);
     }
     leave_out_all(alloc, sought, &mut kept)?;
-    let search = Searcher::of(alloc, sought, cap, false, kept)?;
+    let limits = sought.limits_by_edge(alloc, &kept)?;
+    let search = Searcher::of(alloc, sought, cap, false, kept, Some(limits))?;
     search.first_cycles(alloc, root, found)
 }
 
@@ -257,7 +283,8 @@ fn first_among_parallel(
         return Ok(found);
     }
     leave_out_in_turn_parallel(rt, alloc, sought, ALL_EFFORT, &mut kept)?;
-    let search = Searcher::of(alloc, sought, cap, false, kept)?;
+    let limits = sought.limits_by_edge(alloc, &kept)?;
+    let search = Searcher::of(alloc, sought, cap, false, kept, Some(limits))?;
     parallel::first_cycles(rt, alloc, &search, root, found)
 }
 

@@ -9,6 +9,7 @@ pub mod Back
 pub mod ByKinds
 pub mod Closing
 pub mod Fewer
+pub mod InComponents
 pub mod OfOneKind
 pub mod Owned
 pub mod Partnered

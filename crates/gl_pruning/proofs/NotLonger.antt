@@ -1,8 +1,8 @@
 -- A cycle has no more edges than there are exclusions that have all edges between them.
-use Rattle.std.proofs.Common.{◌≡◌, ℕ, ◌<◌, ◌≤◌, ◌⊎◌, inl, inr, Bool, List, length, get_or, Some, refl, sym, ap, subst, ◌∙◌, arith}
+use Rattle.std.proofs.Common.{◌≡◌, ℕ, ◌+◌, ◌-◌, ◌<◌, ◌≤◌, ◌⊎◌, inl, inr, Bool, List, length, get_or, Some, refl, sym, ap, subst, ◌∙◌, arith}
 use Rattle.std.specs.Prelude.{◌≢◌, true, slice_get, Option, None, All, Contains}
 use Rattle.std.specs.Option.{option_and_then}
-use Rattle.std.proofs.lemmas.Bool.{cases_lt, cases_order, lt-ltb, or_left, or_right, false≢true}
+use Rattle.std.proofs.lemmas.Bool.{cases_eq, cases_lt, cases_order, lt-ltb, or_left, or_right, false≢true}
 use Rattle.std.proofs.lemmas.Option.{slice_get_within, get_or_from_slice_get, same_Some, none-some}
 use Rattle.std_collections.proofs.IndexTableLemmas.Probe.{pigeonhole}
 use Rattle.gl_event.specs.declared.events.LockMode.TheVariants.{Exclusive}
@@ -11,10 +11,10 @@ use Rattle.gl_edges.specs.declared.edge.Edge.{Edge}
 use Rattle.gl_filters.specs.Cycle.{asks_order, first_segment, second_segment, is_ordered, IsCycle}
 use Rattle.gl_filters.specs.declared.query.Mode.{Mode}
 use Rattle.gl_pruning.specs.OffCycles.{KeepsCycles}
-use Rattle.gl_pruning.specs.bodies.Exclusions.{IsExcluded, HaveAll}
+use Rattle.gl_pruning.specs.bodies.Exclusions.{IsExcluded, IsOneOf, HaveAll}
 use Rattle.gl_pruning.specs.bodies.Turns.{chain_of, IsInTurn, TakeTurns}
 use Rattle.gl_pruning.specs.declared.exclusions.Exclusion.{Exclusion}
-use Rattle.gl_pruning.specs.declared.exclusions.Exclusion.TheVariants.{InTurn, UnderLock}
+use Rattle.gl_pruning.specs.declared.exclusions.Exclusion.TheVariants.{InTurn, UnderLock, Holding, Wanting}
 use Rattle.gl_pruning.specs.declared.turns.Turn.{Turn}
 use Rattle.gl_index.proofs.Lists.{element_at}
 use Rattle.gl_pruning.proofs.Back.{kept_at}
@@ -23,9 +23,13 @@ turn_of : (o : Option Turn) (chain : ℕ) → option_and_then (λ turn. turn.cha
 turn_of (Some turn) chain is = (turn, refl, is)
 turn_of None chain is = absurd (none-some chain is)
 
-module _ (clocks : Clocks) (mode : Mode) (len : ℕ) (edges : List Edge) (kept : List Bool) (keeps : KeepsCycles (is_before clocks) mode len edges kept)
-    (turns : List Turn) (exclusions : List Exclusion) (have : HaveAll mode turns exclusions edges kept) (take : TakeTurns mode clocks turns edges kept)
-    (cycle : List Edge) (among : All (Contains edges) cycle) (is : IsCycle (is_before clocks) mode len cycle) where
+-- each edge of the cycle is in its turn, and one of the exclusions has it
+pub record HaveCycle (clocks : Clocks) (mode : Mode) (turns : List Turn) (exclusions : List Exclusion) (cycle : List Edge) : Type 0 where
+  pub one : (k : ℕ) (e : Edge) → slice_get cycle k ≡ Some e → IsOneOf mode turns exclusions e
+  pub in_turn : (k : ℕ) (e : Edge) → slice_get cycle k ≡ Some e → IsInTurn mode clocks turns e
+
+module _ (clocks : Clocks) (mode : Mode) (len : ℕ) (turns : List Turn) (exclusions : List Exclusion) (cycle : List Edge) (is : IsCycle (is_before clocks) mode len cycle)
+    (have : HaveCycle clocks mode turns exclusions cycle) where
   -- the edge at a place of the cycle, and what has it
   record HasPlace (k j : ℕ) : Type 0 where
     edge : Edge
@@ -38,9 +42,8 @@ module _ (clocks : Clocks) (mode : Mode) (len : ℕ) (edges : List Edge) (kept :
   place_at : (k : ℕ) → k < length cycle → (j : ℕ) × HasPlace k j
   place_at k below =
       let e = element_at cycle k below in
-      let (i, there, flag) = kept_at (is_before clocks) mode len edges kept keeps cycle among is k e.0 e.1 in
-      let one = have i e.0 there flag in
-      (one.place, record { edge = e.0; exclusion = one.exclusion; at = e.1; there = one.there; has = one.has; in_turn = take i e.0 there flag })
+      let one = have.one k e.0 e.1 in
+      (one.place, record { edge = e.0; exclusion = one.exclusion; at = e.1; there = one.there; has = one.has; in_turn = have.in_turn k e.0 e.1 })
 
   place_by : (k : ℕ) → (k < length cycle) ⊎ (length cycle ≤ k) → ℕ
   place_by k (inl below) = (place_at k below).0
@@ -98,6 +101,32 @@ module _ (clocks : Clocks) (mode : Mode) (len : ℕ) (edges : List Edge) (kept :
         ]
       ]
 
+  -- two edges of the cycle hold different locks
+  held_apart : (i j : ℕ) (e f : Edge) → i < j → slice_get cycle i ≡ Some e → slice_get cycle j ≡ Some f → e.held ≢ f.held
+  held_apart i j e f lower at_e at_f = λ same.
+      let below = slice_get_within cycle j f at_f in
+      let same_e : get_or cycle i e ≡ e = get_or_from_slice_get cycle i e e at_e in
+      let same_f : get_or cycle j e ≡ f = get_or_from_slice_get cycle j f e at_f in
+      absurd (is.locks_differ i j e lower below (ap (λ d. d.held) same_e ∙ same ∙ ap (λ d. d.held) (sym same_f)))
+
+  -- and want different ones: those that the edges behind them hold
+  wanted_apart : (i j : ℕ) (e f : Edge) → i < j → slice_get cycle i ≡ Some e → slice_get cycle j ≡ Some f → e.wanted ≢ f.wanted
+  wanted_apart i j e f lower at_e at_f = λ same.
+      let below = slice_get_within cycle j f at_f in
+      let next = element_at cycle (i + 1) (omega (arith, lower, below)) in
+      let onward = (is.leads_on i e next.0 at_e next.1).same_lock in
+      elim (cases_eq (j + 1) (length cycle)) [
+        | inl last ↦
+            let first = element_at cycle 0 (omega (arith, below)) in
+            let at_last : slice_get cycle (length cycle - 1) ≡ Some f = ap (slice_get cycle) (omega (arith, last)) ∙ at_f in
+            let back = (is.leads_back f first.0 at_last first.1).same_lock in
+            absurd (held_apart 0 (i + 1) first.0 next.0 (omega arith) first.1 next.1 (sym back ∙ sym same ∙ onward))
+        | inr more ↦
+            let later = element_at cycle (j + 1) (omega (arith, below, more)) in
+            let on = (is.leads_on j f later.0 at_f later.1).same_lock in
+            absurd (held_apart (i + 1) (j + 1) next.0 later.0 (omega (arith, lower)) next.1 later.1 (sym onward ∙ same ∙ on))
+      ]
+
   -- no exclusion has two edges of the cycle
   apart : (i j : ℕ) (e f : Edge) (x : Exclusion) → i < j → slice_get cycle i ≡ Some e → slice_get cycle j ≡ Some f → IsInTurn mode clocks turns e → IsInTurn mode clocks turns f
       → IsExcluded mode turns x e → IsExcluded mode turns x f → ⊥
@@ -109,14 +138,16 @@ module _ (clocks : Clocks) (mode : Mode) (len : ℕ) (edges : List Edge) (kept :
       let in_e = subst (λ d. Contains d.guards (record { lock = lock; mode = Exclusive })) (sym same_e) has_e.1 in
       let in_f = subst (λ d. Contains d.guards (record { lock = lock; mode = Exclusive })) (sym same_f) has_f.1 in
       absurd (is.apart has_e.0 i j e lower below lock (record { one = Exclusive; other = Exclusive; in_one = in_e; in_other = in_f; in_conflict = refl }))
+  apart i j e f (Holding lock) lower at_e at_f in_e in_f has_e has_f = absurd (held_apart i j e f lower at_e at_f (has_e ∙ sym has_f))
+  apart i j e f (Wanting lock) lower at_e at_f in_e in_f has_e has_f = absurd (wanted_apart i j e f lower at_e at_f (has_e ∙ sym has_f))
 
   one_place : (i j : ℕ) → i < j → HasPlace i (place i) → HasPlace j (place j) → place i ≡ place j → ⊥
   one_place i j lower p q same =
       let x : p.exclusion ≡ q.exclusion = same_Some p.exclusion q.exclusion (sym p.there ∙ ap (slice_get exclusions) same ∙ q.there) in
       apart i j p.edge q.edge p.exclusion lower p.at q.at p.in_turn q.in_turn p.has (subst (λ y. IsExcluded mode turns y q.edge) (sym x) q.has)
 
-  pub not_longer : length cycle ≤ length exclusions
-  not_longer =
+  pub no_more : length cycle ≤ length exclusions
+  no_more =
       pigeonhole (length cycle) (length exclusions) place
       (λ k below. let p = has_place k below in slice_get_within exclusions (place k) p.exclusion p.there)
       (λ i j below_i below_j same.
@@ -127,3 +158,12 @@ module _ (clocks : Clocks) (mode : Mode) (len : ℕ) (edges : List Edge) (kept :
           | inr higher ↦ absurd (one_place j i higher (has_place j below_j) (has_place i below_i) (sym same))
         ]
       ])
+
+pub not_longer : (clocks : Clocks) (mode : Mode) (len : ℕ) (edges : List Edge) (kept : List Bool) → KeepsCycles (is_before clocks) mode len edges kept
+    → (turns : List Turn) (exclusions : List Exclusion) → HaveAll mode turns exclusions edges kept → TakeTurns mode clocks turns edges kept
+    → (cycle : List Edge) → All (Contains edges) cycle → IsCycle (is_before clocks) mode len cycle → length cycle ≤ length exclusions
+not_longer clocks mode len edges kept keeps turns exclusions have take cycle among is =
+    no_more clocks mode len turns exclusions cycle is (record {
+      one = λ k e at. let (i, there, flag) = kept_at (is_before clocks) mode len edges kept keeps cycle among is k e at in have i e there flag;
+      in_turn = λ k e at. let (i, there, flag) = kept_at (is_before clocks) mode len edges kept keeps cycle among is k e at in take i e there flag;
+    })

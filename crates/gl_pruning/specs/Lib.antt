@@ -1,5 +1,6 @@
 pub mod Alone
 pub mod Kinds
+pub mod Limits
 pub mod Loops
 pub mod OffCycles
 pub mod Sought

@@ -1,4 +1,5 @@
 -- The words of loops and private functions. No public contract cites them.
+pub mod Covers
 pub mod Epochs
 pub mod Exclusions
 pub mod Flags

@@ -1,8 +1,8 @@
 //! How many edges a cycle can have at most: edges that exclude each other.
 //!
 //! No two edges of one thread stand in a cycle together, nor do two of threads that take turns, where the mode asks
-//! for the order. From Guarded on, neither do two that are made under one lock which is held exclusively. Where a
-//! few chains of threads and such locks have all edges that are kept between them, a cycle has one edge of each at
+//! for the order. From Guarded on, neither do two that are made under one lock which is held exclusively. Two that hold one lock
+//! don't either, nor two that want one. Where a few chains of threads and such locks have all edges that are kept between them, a cycle has one edge of each at
 //! most. So under one lock there is none, and of two threads no path is looked at that is longer than two edges.
 //!
 //! Which chains and locks these are is not proved; it is checked.
@@ -36,6 +36,10 @@ pub(crate) enum Exclusion {
     InTurn(usize),
     /// Those that are made under a lock which is held exclusively.
     UnderLock(LockId),
+    /// Those that hold a lock.
+    Holding(LockId),
+    /// Those that want a lock.
+    Wanting(LockId),
 }
 
 impl Exclusion {
@@ -46,6 +50,8 @@ impl Exclusion {
         match *self {
             Exclusion::InTurn(chain) => chain_of(turns, edge.thread) == Some(chain),
             Exclusion::UnderLock(lock) => mode.asks_guards() && is_under(edge, lock),
+            Exclusion::Holding(lock) => edge.held == lock,
+            Exclusion::Wanting(lock) => edge.wanted == lock,
         }
     }
 }
@@ -63,8 +69,8 @@ pub(crate) fn is_under(edge: &Edge, lock: LockId) -> bool
     false
 }
 
-// Whether one of these has the edge.
-fn is_one_of(mode: Mode, turns: &[Turn], exclusions: &[Exclusion], edge: &Edge) -> bool
+/// Whether one of these has the edge.
+pub(crate) fn is_one_of(mode: Mode, turns: &[Turn], exclusions: &[Exclusion], edge: &Edge) -> bool
     ensures { IsTrue result → IsOneOf mode turns.now exclusions.now edge.now }
 {
     for exclusion in exclusions {
@@ -214,6 +220,47 @@ impl<'a> Sought<'a> {
             found.push(exclusion)?;
         }
         Ok(found)
+    }
+
+    /// Of the exclusions of the first edge at these places the one that has most of some of the edges there; of those of the locks that
+    /// edges hold and want, too, if that is asked for.
+    pub(crate) fn widest_of(
+        &self,
+        turns: &[Turn],
+        places: &[usize],
+        has_locks: bool,
+    ) -> Option<Exclusion> {
+        let (edge, _) = self.edge_at(places.get(0))?;
+        let mut widest = self.widest(turns, chain_of(turns, edge.thread)?, edge, places);
+        if !has_locks {
+            return Some(widest);
+        }
+        for of_lock in [
+            Exclusion::Holding(edge.held),
+            Exclusion::Wanting(edge.wanted),
+        ] {
+            if self.count(turns, &of_lock, places) > self.count(turns, &widest, places) {
+                widest = of_lock;
+            }
+        }
+        Some(widest)
+    }
+
+    /// Those of these places whose edges an exclusion hasn't.
+    pub(crate) fn without(
+        &self,
+        alloc: Global,
+        turns: &[Turn],
+        exclusion: &Exclusion,
+        places: &[usize],
+    ) -> Result<Vec<usize>, Memory> {
+        let mut left = Vec::new(alloc);
+        for place in places {
+            if !self.has_at(turns, exclusion, Some(place)) {
+                left.push(*place)?;
+            }
+        }
+        Ok(left)
     }
 
     // The edge's chain, or the lock that the edge is made under, where that has more of some of the edges at these places.

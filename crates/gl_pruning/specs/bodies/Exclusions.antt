@@ -3,7 +3,7 @@ use Rattle.std.specs.Prelude.{◌≡◌, ℕ, Bool, true, List, slice_get, Some}
 use Rattle.gl_edges.specs.declared.edge.Edge.{Edge}
 use Rattle.gl_filters.specs.declared.query.Mode.{Mode}
 use Rattle.gl_pruning.specs.declared.exclusions.Exclusion.{Exclusion}
-use Rattle.gl_pruning.specs.declared.exclusions.Exclusion.TheVariants.{InTurn, UnderLock}
+use Rattle.gl_pruning.specs.declared.exclusions.Exclusion.TheVariants.{InTurn, UnderLock, Holding, Wanting}
 use Rattle.gl_pruning.specs.declared.turns.Turn.{Turn}
 use Rattle.gl_pruning.specs.bodies.Owners.{IsUnder}
 use Rattle.gl_pruning.specs.bodies.Turns.{chain_of}
@@ -12,6 +12,8 @@ use Rattle.gl_pruning.specs.bodies.Turns.{chain_of}
 abbrev pub IsExcluded : Mode → List Turn → Exclusion → Edge → Type 0
 IsExcluded mode turns (InTurn chain) e = chain_of turns e.thread ≡ Some chain
 IsExcluded mode turns (UnderLock lock) e = IsUnder mode lock e
+IsExcluded mode turns (Holding lock) e = e.held ≡ lock
+IsExcluded mode turns (Wanting lock) e = e.wanted ≡ lock
 
 -- one of these has the edge
 pub record IsOneOf (mode : Mode) (turns : List Turn) (exclusions : List Exclusion)

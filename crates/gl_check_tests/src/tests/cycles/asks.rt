@@ -27,6 +27,8 @@ pub(super) enum Ask {
     AtFirst(Mode, usize),
     // how many edges a cycle of the mode can have, of at most so many, as far as threads and gate locks tell
     Longest(Mode, u32, usize),
+    // how many edges a cycle of the mode with each edge can have, of at most so many, as far as components tell
+    Limits(Mode, u32, &'static [usize]),
     // which edges trimming keeps in the mode, and which it removes, in this order
     Trimmed(Mode, &'static [usize], &'static [usize]),
     // which edges may lie on a loop
@@ -48,6 +50,7 @@ pub(super) fn answers<R: Threads + Sync>(rt: &R, alloc: Global, known: &Known, a
         Ask::Count(mode, len, wanted) => is_count(rt, alloc, known, (mode, len), wanted),
         Ask::AtFirst(mode, wanted) => count_at_first(alloc, known, mode) == Some(wanted),
         Ask::Longest(mode, len, wanted) => longest(alloc, known, (mode, len)) == Some(wanted),
+        Ask::Limits(mode, len, wanted) => is_limited(alloc, known, (mode, len), wanted),
         Ask::Trimmed(mode, kept, removed) => is_trimmed(alloc, known, mode, kept, removed),
         Ask::OnLoops(wanted) => is_on_loops(alloc, known, wanted),
         Ask::Findings(mode, len, max, wanted, more) => {
@@ -167,6 +170,22 @@ fn longest(alloc: Global, known: &Known, asked: (Mode, u32)) -> Option<usize> {
     let kept = sought.kept_at_first(alloc).ok()?;
     let shorter = sought.shortened(alloc, &kept).ok()?;
     Some(shorter.len)
+}
+
+// How many edges a cycle with each edge can have.
+fn limits(alloc: Global, known: &Known, asked: (Mode, u32)) -> Option<Vec<usize>> {
+    let query = query_for((asked.0, asked.1, 1))?;
+    let sought = Sought::of(&known.edges, &known.order, &query);
+    let kept = sought.kept_at_first(alloc).ok()?;
+    sought.limits_by_edge(alloc, &kept).ok()
+}
+
+// Whether these are so many.
+fn is_limited(alloc: Global, known: &Known, asked: (Mode, u32), wanted: &[usize]) -> bool {
+    match limits(alloc, known, asked) {
+        Some(limits) => limits.as_slice() == wanted,
+        None => false,
+    }
 }
 
 // Whether one thread finds these and several find the same.

@@ -156,6 +156,54 @@ const CASES: &[Case] = &[
             Ask::All(Mode::Full, 4, &[&[1, 2]]),
         ],
     },
+    // Two threads take two locks, aside of a ring of four. A cycle of the two has two edges, whatever the ring's have.
+    Case {
+        name: "components, by threads",
+        lists: Told(&[
+            &[Acq(0, 1), Acq(1, 2)],
+            &[Acq(1, 1), Acq(0, 2)],
+            &[Acq(2, 1), Acq(3, 2)],
+            &[Acq(3, 1), Acq(4, 2)],
+            &[Acq(4, 1), Acq(5, 2)],
+            &[Acq(5, 1), Acq(2, 2)],
+        ]),
+        asks: &[
+            Ask::Longest(Mode::Full, 8, 6),
+            Ask::Limits(Mode::Full, 8, &[2, 2, 4, 4, 4, 4]),
+            Ask::Limits(Mode::Full, 3, &[2, 2, 3, 3, 3, 3]),
+        ],
+    },
+    // Each edge holds one lock or wants it, and a cycle has one edge of either. One edge more lies on no loop.
+    Case {
+        name: "components, by a lock",
+        lists: Told(&[
+            &[Acq(0, 1), Acq(1, 2)],
+            &[Acq(1, 1), Acq(0, 2)],
+            &[Acq(0, 1), Acq(2, 2)],
+            &[Acq(2, 1), Acq(0, 2)],
+            &[Acq(0, 1), Acq(3, 2)],
+            &[Acq(3, 1), Acq(0, 2)],
+            &[Acq(1, 1), Acq(9, 2)],
+        ]),
+        asks: &[
+            Ask::Longest(Mode::Basic, 8, 6),
+            Ask::Limits(Mode::Basic, 8, &[2, 2, 2, 2, 2, 2, 1]),
+        ],
+    },
+    // A ring of four, each edge under one of two gate locks, which are none in Basic. Edges from a gate lock lie on no loop.
+    Case {
+        name: "components, by gate locks",
+        lists: Told(&[
+            &[Acq(8, 1), Acq(0, 2), Acq(1, 3)],
+            &[Acq(9, 1), Acq(1, 2), Acq(2, 3)],
+            &[Acq(8, 1), Acq(2, 2), Acq(3, 3)],
+            &[Acq(9, 1), Acq(3, 2), Acq(0, 3)],
+        ]),
+        asks: &[
+            Ask::Limits(Mode::Basic, 8, &[4, 1, 1, 4, 1, 1, 4, 1, 1, 4, 1, 1]),
+            Ask::Limits(Mode::Guarded, 8, &[2, 1, 1, 2, 1, 1, 2, 1, 1, 2, 1, 1]),
+        ],
+    },
     // Two threads take two locks, and two others that are forked once both are joined take them the other way round. So each
     // edge lies on a loop, but on none of its own epoch.
     Case {

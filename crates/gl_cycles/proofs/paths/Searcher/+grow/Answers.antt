@@ -15,7 +15,7 @@ use Rattle.gl_index.specs.Indexes.{held_lock, both_locks}
 use Rattle.gl_index.proofs.Lists.{element_at}
 use Rattle.gl_index.proofs.Tables.{within_edges}
 use Rattle.gl_cycles.proofs.EdgesOfPaths.{wanted_after, wanted_last, held_first, wanted_by_table, held_by_table, some_picked}
-use Rattle.gl_cycles.specs.bodies.Searching.{IsReady, all_from}
+use Rattle.gl_cycles.specs.bodies.Searching.{IsReady, all_from, limited}
 use Rattle.gl_cycles.proofs.EdgesOffCycles.{block-off}
 use Rattle.gl_cycles.proofs.PathsGrow.{HasGrownTo, OthersAreStray, LeftOutAreStray, other_lock, other_locks, grow_begin, grow_step, grow_end, grow_short, grow_none, grow_closed, grown_room, goes_on, grow_stray, joined_path}
 use Rattle.gl_cycles.proofs.paths.Searcher.+grow.Goals as goal
@@ -23,7 +23,7 @@ use Rattle.gl_cycles.proofs.paths.Searcher.+grow.Goals as goal
 -- the path is closed
 pub grow-returns-then-is_closed : goal.grow-returns-then-is_closed
 grow-returns-then-is_closed t c =
-    let s = c.args.self.now in
+    let s = limited c.args.self.now c.args.limit in
     record {
       added = grow_closed (is_before s.order.now) s.mode (edges_of_table s.table.now) c.args.path.now s.cap _ (s.len - length c.args.path.now) _
           (omega (arith, c.args.found.now.ok.0, c.len.ensures, length-map c.args.found.now.items (λ cycle. cycle.items)))
@@ -32,9 +32,9 @@ grow-returns-then-is_closed t c =
     }
 
 -- the path may not be longer
-pub grow-returns-then-path-self : goal.grow-returns-then-path-self
-grow-returns-then-path-self t c =
-    let s = c.args.self.now in
+pub grow-returns-then-path-limit : goal.grow-returns-then-path-limit
+grow-returns-then-path-limit t c =
+    let s = limited c.args.self.now c.args.limit in
     let none : s.len - length c.args.path.now ≡ 0 = omega arith in
     record {
       added = rw none (grow_short (is_before s.order.now) s.mode (edges_of_table s.table.now) c.args.path.now s.cap _
@@ -53,7 +53,7 @@ first_follower s path within some first is =
 -- the path's last edge is in the index
 pub grow-begin-next-requires : goal.grow-begin-next-requires
 grow-begin-next-requires t c =
-    let s = c.args.self.now in
+    let s = limited c.args.self.now c.args.limit in
     let within = c.requires.within (length c.args.path.now - 1) 0 (omega (arith, c.requires.some)) in
     omega (arith, within, c.requires.ready.indexed.long, length-map s.table.now (λ pair. pair.0), s.index.first.ok.0)
 
@@ -65,9 +65,9 @@ left_outs s path ready short = λ i f at out.
 -- before the first follower
 pub grow-loop-next-init : goal.grow-loop-next-init
 grow-loop-next-init t c =
-    let s = c.args.self.now in
+    let s = limited c.args.self.now c.args.limit in
     grow_begin (is_before s.order.now) s.mode (edges_of_table s.table.now) (s.len - length c.args.path.now - 1) c.args.path.now s.cap held_lock s.kept.items _
-    (other_lock (is_before s.order.now) s.mode (edges_of_table s.table.now) (s.len - length c.args.path.now - 1) c.args.path.now s.cap (some_picked s.table.now c.args.path.now c.requires.within c.requires.some)) (left_outs s c.args.path.now c.requires.ready (omega (arith, c.requires.short, c.if-path-self.false))) _ _
+    (other_lock (is_before s.order.now) s.mode (edges_of_table s.table.now) (s.len - length c.args.path.now - 1) c.args.path.now s.cap (some_picked s.table.now c.args.path.now c.requires.within c.requires.some)) (left_outs s c.args.path.now c.requires.ready (omega (arith, c.requires.short, c.if-path-limit.false))) _ _
     (omega (arith, c.requires.room, length-map c.args.found.now.items (λ cycle. cycle.items)))
     (first_follower s c.args.path.now c.requires.within c.requires.some c.begin-next.result (λ e at. c.begin-next.ensures (edges_of_table s.table.now) s.kept.items e c.requires.ready.indexed at))
 
@@ -93,7 +93,7 @@ grown_by s path i before after added =
 -- the call for one follower
 pub grow-grow_by-requires : goal.grow-grow_by-requires
 grow-grow_by-requires t c =
-    let s = c.args.self.now in
+    let s = limited c.args.self.now c.args.limit in
     let had : Grown s c.args.path.now (map (λ cycle. cycle.items) c.args.found.now.items) (map (λ cycle. cycle.items) c.loop-next.found.items) (Some c.in-Some.i) =
     subst (Grown s c.args.path.now (map (λ cycle. cycle.items) c.args.found.now.items) (map (λ cycle. cycle.items) c.loop-next.found.items)) c.in-Some.is c.loop-next.invariant in
     let room = grown_room _ _ _ _ _ _ _ _ _ _ _ had in
@@ -123,14 +123,14 @@ grow-grow_by-requires t c =
 -- the follower is in the index
 pub grow-after-next-requires : goal.grow-after-next-requires
 grow-after-next-requires t c =
-    let s = c.args.self.now in
+    let s = limited c.args.self.now c.args.limit in
     let had : Grown s c.args.path.now (map (λ cycle. cycle.items) c.args.found.now.items) (map (λ cycle. cycle.items) c.loop-next.found.items) (Some c.in-Some.i) =
     subst (Grown s c.args.path.now (map (λ cycle. cycle.items) c.args.found.now.items) (map (λ cycle. cycle.items) c.loop-next.found.items)) c.in-Some.is c.loop-next.invariant in
     omega (arith, had.holds.0, c.requires.ready.indexed.as_long, s.index.next.ok.0)
 
 pub grow-loop-next-smaller : goal.grow-loop-next-smaller
 grow-loop-next-smaller t c =
-    let s = c.args.self.now in
+    let s = limited c.args.self.now c.args.limit in
     let had : Grown s c.args.path.now (map (λ cycle. cycle.items) c.args.found.now.items) (map (λ cycle. cycle.items) c.loop-next.found.items) (Some c.in-Some.i) =
     subst (Grown s c.args.path.now (map (λ cycle. cycle.items) c.args.found.now.items) (map (λ cycle. cycle.items) c.loop-next.found.items)) c.in-Some.is c.loop-next.invariant in
     let here = element_at (edges_of_table s.table.now) c.in-Some.i had.holds.0 in
@@ -141,18 +141,18 @@ grow-loop-next-smaller t c =
 -- one follower more
 pub grow-loop-next-preserved : goal.grow-loop-next-preserved
 grow-loop-next-preserved t c =
-    let s = c.args.self.now in
+    let s = limited c.args.self.now c.args.limit in
     let had : Grown s c.args.path.now (map (λ cycle. cycle.items) c.args.found.now.items) (map (λ cycle. cycle.items) c.loop-next.found.items) (Some c.in-Some.i) =
     subst (Grown s c.args.path.now (map (λ cycle. cycle.items) c.args.found.now.items) (map (λ cycle. cycle.items) c.loop-next.found.items)) c.in-Some.is c.loop-next.invariant in
     let here = element_at (edges_of_table s.table.now) c.in-Some.i had.holds.0 in
     grow_step (is_before s.order.now) s.mode (edges_of_table s.table.now) (s.len - length c.args.path.now - 1) c.args.path.now s.cap held_lock s.kept.items _
-    (other_lock (is_before s.order.now) s.mode (edges_of_table s.table.now) (s.len - length c.args.path.now - 1) c.args.path.now s.cap (some_picked s.table.now c.args.path.now c.requires.within c.requires.some)) (left_outs s c.args.path.now c.requires.ready (omega (arith, c.requires.short, c.if-path-self.false))) _ _ _ c.in-Some.i _ had (grown_by s c.args.path.now c.in-Some.i _ _ c.in_ok-grow_by.ensures.added)
+    (other_lock (is_before s.order.now) s.mode (edges_of_table s.table.now) (s.len - length c.args.path.now - 1) c.args.path.now s.cap (some_picked s.table.now c.args.path.now c.requires.within c.requires.some)) (left_outs s c.args.path.now c.requires.ready (omega (arith, c.requires.short, c.if-path-limit.false))) _ _ _ c.in-Some.i _ had (grown_by s c.args.path.now c.in-Some.i _ _ c.in_ok-grow_by.ensures.added)
     (subst (λ lock. IsNextWith held_lock (edges_of_table s.table.now) s.kept.items lock (c.in-Some.i + 1) c.after-next.result) (had.holds.1 here.0 here.1) (c.after-next.ensures (edges_of_table s.table.now) s.kept.items here.0 c.requires.ready.indexed here.1))
 
 -- all followers are done
 pub grow-returns : goal.grow-returns
 grow-returns t c =
-    let s = c.args.self.now in
+    let s = limited c.args.self.now c.args.limit in
     let had : Grown s c.args.path.now (map (λ cycle. cycle.items) c.args.found.now.items) (map (λ cycle. cycle.items) c.loop-next.found.items) None =
     subst (Grown s c.args.path.now (map (λ cycle. cycle.items) c.args.found.now.items) (map (λ cycle. cycle.items) c.loop-next.found.items)) c.in_default.is c.loop-next.invariant in
     let left : suc (s.len - length c.args.path.now - 1) ≡ s.len - length c.args.path.now = omega (arith, c.requires.short) in
@@ -165,7 +165,7 @@ grow-returns t c =
 -- the edge leads nowhere
 pub grow_by-returns-then-leads_astray : goal.grow_by-returns-then-leads_astray
 grow_by-returns-then-leads_astray t c =
-    let s = c.args.self.now in
+    let s = limited c.args.self.now c.args.limit in
     let here = element_at (edges_of_table s.table.now) c.args.next (omega (arith, c.requires.there, length-map s.table.now (λ pair. pair.0))) in
     let longer = picked-push (edges_of_table s.table.now) c.args.path.now c.args.next here.0 here.1 in
     record {
@@ -179,7 +179,7 @@ grow_by-returns-then-leads_astray t c =
 -- the edge can't follow
 pub grow_by-returns-then-not-can_join : goal.grow_by-returns-then-not-can_join
 grow_by-returns-then-not-can_join t c =
-    let s = c.args.self.now in
+    let s = limited c.args.self.now c.args.limit in
     let here = element_at (edges_of_table s.table.now) c.args.next (omega (arith, c.requires.there, length-map s.table.now (λ pair. pair.0))) in
     record {
       added = grow_stray (is_before s.order.now) s.mode (edges_of_table s.table.now) (s.len - length (c.args.path.now ++ c.args.next ∷ [])) c.args.path.now s.cap _ c.args.next here.0
@@ -189,7 +189,7 @@ grow_by-returns-then-not-can_join t c =
 
 pub grow_by-grow-requires : goal.grow_by-grow-requires
 grow_by-grow-requires t c =
-    let s = c.args.self.now in
+    let s = limited c.args.self.now c.args.limit in
     let longer = c.as_slice.ensures.value ∙ c.longer_path-longer.ensures in
     let long : length c.as_slice.result.now ≡ length c.args.path.now + 1 = ap length longer ∙ length_push c.args.path.now c.args.next in
     let here = element_at (edges_of_table s.table.now) c.args.next (omega (arith, c.requires.there, length-map s.table.now (λ pair. pair.0))) in
@@ -225,7 +225,7 @@ others s path within some one_left =
 -- before the first edge that closes the path
 pub close-loop-next-init : goal.close-loop-next-init
 close-loop-next-init t c =
-    let s = c.args.self.now in
+    let s = limited c.args.self.now c.args.limit in
     let path = c.args.path.now in
     grow_begin (is_before s.order.now) s.mode (edges_of_table s.table.now) (s.len - length path - 1) path s.cap both_locks s.kept.items (closing s path) (others s path c.requires.within c.requires.some c.requires.one_left) (left_outs s path c.requires.ready (omega (arith, c.requires.one_left))) _ _
     (omega (arith, c.requires.room, length-map c.args.found.now.items (λ cycle. cycle.items)))
@@ -235,7 +235,7 @@ close-loop-next-init t c =
 
 pub close-grow_by-requires : goal.close-grow_by-requires
 close-grow_by-requires t c =
-    let s = c.args.self.now in
+    let s = limited c.args.self.now c.args.limit in
     let had : Closed s c.args.path.now (map (λ cycle. cycle.items) c.args.found.now.items) (map (λ cycle. cycle.items) c.loop-next.found.items) (Some c.in-Some.i) =
     subst (Closed s c.args.path.now (map (λ cycle. cycle.items) c.args.found.now.items) (map (λ cycle. cycle.items) c.loop-next.found.items)) c.in-Some.is c.loop-next.invariant in
     let room = grown_room _ _ _ _ _ _ _ _ _ _ _ had in
@@ -264,14 +264,14 @@ close-grow_by-requires t c =
 
 pub close-after-next-requires : goal.close-after-next-requires
 close-after-next-requires t c =
-    let s = c.args.self.now in
+    let s = limited c.args.self.now c.args.limit in
     let had : Closed s c.args.path.now (map (λ cycle. cycle.items) c.args.found.now.items) (map (λ cycle. cycle.items) c.loop-next.found.items) (Some c.in-Some.i) =
     subst (Closed s c.args.path.now (map (λ cycle. cycle.items) c.args.found.now.items) (map (λ cycle. cycle.items) c.loop-next.found.items)) c.in-Some.is c.loop-next.invariant in
     omega (arith, had.holds.0, c.requires.ready.indexed.closers.long, s.index.closers.next.ok.0)
 
 pub close-loop-next-smaller : goal.close-loop-next-smaller
 close-loop-next-smaller t c =
-    let s = c.args.self.now in
+    let s = limited c.args.self.now c.args.limit in
     let had : Closed s c.args.path.now (map (λ cycle. cycle.items) c.args.found.now.items) (map (λ cycle. cycle.items) c.loop-next.found.items) (Some c.in-Some.i) =
     subst (Closed s c.args.path.now (map (λ cycle. cycle.items) c.args.found.now.items) (map (λ cycle. cycle.items) c.loop-next.found.items)) c.in-Some.is c.loop-next.invariant in
     let here = element_at (edges_of_table s.table.now) c.in-Some.i had.holds.0 in
@@ -282,7 +282,7 @@ close-loop-next-smaller t c =
 -- one edge more that closes it
 pub close-loop-next-preserved : goal.close-loop-next-preserved
 close-loop-next-preserved t c =
-    let s = c.args.self.now in
+    let s = limited c.args.self.now c.args.limit in
     let path = c.args.path.now in
     let had : Closed s path (map (λ cycle. cycle.items) c.args.found.now.items) (map (λ cycle. cycle.items) c.loop-next.found.items) (Some c.in-Some.i) =
     subst (Closed s path (map (λ cycle. cycle.items) c.args.found.now.items) (map (λ cycle. cycle.items) c.loop-next.found.items)) c.in-Some.is c.loop-next.invariant in
@@ -293,7 +293,7 @@ close-loop-next-preserved t c =
 -- all edges that close it are done
 pub close-returns : goal.close-returns
 close-returns t c =
-    let s = c.args.self.now in
+    let s = limited c.args.self.now c.args.limit in
     let path = c.args.path.now in
     let had : Closed s path (map (λ cycle. cycle.items) c.args.found.now.items) (map (λ cycle. cycle.items) c.loop-next.found.items) None =
     subst (Closed s path (map (λ cycle. cycle.items) c.args.found.now.items) (map (λ cycle. cycle.items) c.loop-next.found.items)) c.in_default.is c.loop-next.invariant in

@@ -6,4 +6,5 @@ returns-clause-ready c = record {
   fits = c.requires.fits;
   kept = c.requires.kept;
   indexed = rw c.deref.ensures.value at c.in_ok-index.ensures;
+  limits = c.requires.limited;
 }
