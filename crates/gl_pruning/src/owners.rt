@@ -73,7 +73,10 @@ impl Graph {
         let mut before: Option<Link> = None;
         for link in &links_of(alloc, ends, kept)? {
             if is_next(&before, link) {
-                owners = owners_among(alloc, sought, &owners, link)?;
+                // of most pairs with many edges nobody is left by then
+                if !owners.is_empty() {
+                    owners = owners_among(alloc, sought, &owners, link)?;
+                }
             } else {
                 add_pair(&mut pairs, &before, owners)?;
                 owners = owners_of(alloc, sought, link)?;

@@ -2,8 +2,8 @@
 //!
 //! The edges that lie on no loop are the first, since they are soon found, then those that lie on none of their
 //! epoch where a run has some, and then those that are alone among edges of their own thread. The others are left out for one reason after the other, the cheaper ones
-//! first: those whose way back leads through others of their thread, or of a lock that they are made under; those beside which
-//! none may stand; by kind, since there may be many edges of each kind; those that have no way back; by kind and thread; and single ones by their segments. Where some are, others may lie on no loop any more.
+//! first: those beside which none may stand; those whose way back leads through others of their thread, or of a lock that they are
+//! made under; by kind, since there may be many edges of each kind; those that have no way back; by kind and thread; and single ones by their segments. Where some are, others may lie on no loop any more.
 ghost use Rattle.std.specs.Prelude.{◌≡◌, ◌∷◌, [], IfOk, OnOk, count_by};
 ghost use Rattle.gl_filters.specs.Picked.{edges_of_table};
 ghost use Rattle.gl_pruning.specs.Alone.{LeavesOutAlone};
@@ -33,10 +33,10 @@ const MOST_LOOKS: usize = 100_000_000;
 /// Why edges are left out.
 #[derive(Clone, Copy, Debug)]
 pub(crate) enum Reason {
-    // their way back leads through others of their owner
-    Through,
     // none may follow them, or none may lead them
     Stuck,
+    // their way back leads through others of their owner
+    Through,
     // none of a cycle is alike to them
     Alike(Grain),
     // they have no way back
@@ -46,11 +46,11 @@ pub(crate) enum Reason {
 /// The reasons, in their order.
 pub(crate) fn reasons() -> [Reason; 6]
     ensures { result
-        ≡ Through ∷ Stuck ∷ Alike ByKind ∷ NoWay ∷ Alike ByThread ∷ Alike BySegment ∷ [] }
+        ≡ Stuck ∷ Through ∷ Alike ByKind ∷ NoWay ∷ Alike ByThread ∷ Alike BySegment ∷ [] }
 {
     [
-        Reason::Through,
         Reason::Stuck,
+        Reason::Through,
         Reason::Alike(Grain::ByKind),
         Reason::NoWay,
         Reason::Alike(Grain::ByThread),
