@@ -11,6 +11,7 @@ pub mod InOrder
 pub mod LeastTurns
 pub mod ListingsAgree
 pub mod ListsAscend
+pub mod LongFronts
 pub mod ModelSteps
 pub mod Modelled
 pub mod NextFlagged

@@ -18,6 +18,8 @@ use Rattle.gl_findings.proofs.ByPassages.{last_one, no_walk_by}
 use Rattle.gl_findings.proofs.Choosing.{none_of_one}
 use Rattle.gl_findings.proofs.Cutting.{none_goes_round, none_with_turned}
 use Rattle.gl_findings.proofs.LeastTurns.{turn_of_last}
+use Rattle.gl_findings.proofs.LongFronts.{none_after_full}
+use Rattle.gl_findings.specs.bodies.Lengths.{IsFull}
 use Rattle.gl_findings.specs.bodies.Passing.{may_pass}
 use Rattle.gl_findings.specs.bodies.Running.{IsRunTwice}
 use Rattle.gl_findings.proofs.Passed.{none_begins, none_through}
@@ -128,6 +130,14 @@ module _ (s : Finder) (ready : IsReady s) where
   whole signature old own now short is grown =
       let left : suc (s.len - length signature - 1) ≡ s.len - length signature = omega arith in
       subst (λ n. now ≡ take s.cap (old ++ block_of s n signature)) left (grow_whole (is_before s.order.now) s.mode s.len s.table.now (s.len - length signature - 1) signature s.cap old own now is grown)
+
+  -- nothing goes on from a signature that has as many classes as its cycles have edges at most
+  pub full : (signature : List ℕ) (old own : List (List ℕ)) → length signature < s.len → length own ≤ s.cap → IsFull s.longest.now signature → own ≡ old ++ finding_of s signature
+      → own ≡ take s.cap (old ++ block_of s (s.len - length signature) signature)
+  full signature old own short room is shown =
+      let n = s.len - length signature - 1 in
+      let none = λ (i : ℕ) (below : i < length s.table.now). none_after_full (is_before s.order.now) s.mode s.len s.table.now s.longest.now ready.longest n signature i is in
+      whole signature old own own short shown (begin n signature (length s.table.now) (length s.table.now) own room (omega arith) none (λ i low below. absurd (omega (arith, low, below)))).grown
 
   -- the next class stands behind
   pub later : (i : ℕ) → i < length s.table.now → (get_or s.next.now (i + 1) 0 ≤ length s.table.now) × (i < get_or s.next.now (i + 1) 0)

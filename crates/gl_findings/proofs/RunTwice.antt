@@ -31,14 +31,14 @@ use Rattle.gl_findings.proofs.Cutting.{classes_told, cycle_is_kept, filter-nothi
 use Rattle.gl_findings.proofs.Turning.{home, homes_differ}
 
 -- the position that has a class
-mapped_at : (f : ℕ → Option ℕ) (positions classes : List ℕ) → map f positions ≡ map Some classes → (k class : ℕ) → slice_get classes k ≡ Some class → (p : ℕ) × (slice_get positions k ≡ Some p) × (f p ≡ Some class)
+pub mapped_at : (f : ℕ → Option ℕ) (positions classes : List ℕ) → map f positions ≡ map Some classes → (k class : ℕ) → slice_get classes k ≡ Some class → (p : ℕ) × (slice_get positions k ≡ Some p) × (f p ≡ Some class)
 mapped_at f positions [] same k class at = absurd (let below = slice_get_within [] k class at in omega arith)
 mapped_at f [] (c ∷ cs) same k class at = absurd (cc)
 mapped_at f (p ∷ ps) (c ∷ cs) same zero class at = (p, refl, ap (λ l. get_or l 0 (Some c)) same ∙ at)
 mapped_at f (p ∷ ps) (c ∷ cs) same (suc k) class at = mapped_at f ps cs (ap (drop 1) same) k class at
 
 -- the edge at one of the positions stands at the same place among those that are picked
-picked_here : (edges : List Edge) (positions : List ℕ) → All (λ i. i < length edges) positions → (k p : ℕ) (e : Edge) → slice_get positions k ≡ Some p → slice_get edges p ≡ Some e → slice_get (picked edges positions) k ≡ Some e
+pub picked_here : (edges : List Edge) (positions : List ℕ) → All (λ i. i < length edges) positions → (k p : ℕ) (e : Edge) → slice_get positions k ≡ Some p → slice_get edges p ≡ Some e → slice_get (picked edges positions) k ≡ Some e
 picked_here edges [] within k p e at there = absurd (let below = slice_get_within [] k p at in omega arith)
 picked_here edges (i ∷ is) within zero p e at there = ap (λ o. slice_get (cons_option o (picked edges is)) 0) (ap (slice_get edges) (same_Some i p at) ∙ there)
 picked_here edges (i ∷ is) within (suc k) p e at there =

@@ -4,6 +4,7 @@ pub mod Finding
 pub mod Growing
 pub mod Grounds
 pub mod Grouping
+pub mod Lengths
 pub mod Lesser
 pub mod Passing
 pub mod Running

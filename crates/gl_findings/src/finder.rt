@@ -1,10 +1,12 @@
 //! The search of signatures: they grow class by class.
-ghost use Rattle.std.specs.Prelude.{◌≡◌, ◌+◌, ◌-◌, ◌<◌, ◌≤◌, [], ◌∷◌, ◌++◌, ℕ, length, take, true, false, IfErr, IfOk, IfSome, OnOk, All};
+ghost use Rattle.std.specs.Prelude.{◌≡◌, ◌+◌, ◌-◌, ◌<◌, ◌≤◌, [], ◌∷◌, ◌++◌, ℕ, length, take, true, false, IfErr, IfOk, IfSome, IsTrue, OnOk, All};
 ghost use Rattle.gl_segments.specs.Clocks.{is_before};
 ghost use Rattle.gl_filters.specs.declared.steps.Stop.TheVariants.{Memory};
 ghost use Rattle.gl_cycles.specs.Cycles.{cycles_in};
-ghost use Rattle.gl_findings.specs.Findings.{findings};
+ghost use Rattle.gl_filters.specs.Picked.{edges_of_table};
+ghost use Rattle.gl_findings.specs.Findings.{classes_of, findings};
 ghost use Rattle.gl_findings.specs.bodies.Finding.{AreAdded, AreReachedBy, HasSpans, IsReady, IsUnbound, finding_of, block_of, below_of};
+ghost use Rattle.gl_findings.specs.bodies.Lengths.{AreLongest, IsFull};
 ghost use Rattle.gl_findings.specs.bodies.Told.{AreGrounds};
 
 use crate::grounds::Grounds;
@@ -44,6 +46,8 @@ pub(crate) struct Finder<'a> {
     pub(crate) closers: &'a Closers,
     // and their spans, by their classes
     pub(crate) begins: &'a Spans,
+    // how many edges a cycle has at most, by the class of one of them; none, where that isn't known
+    pub(crate) longest: &'a [usize],
     // whether it ends where its steps are taken
     pub(crate) is_bound: bool,
     // how many edges a cycle may have
@@ -68,6 +72,7 @@ impl Drop for Finder<'_> {
             holders,
             closers,
             begins,
+            longest,
             is_bound,
             len,
             cap,
@@ -83,10 +88,13 @@ impl<'a> Finder<'a> {
         order: &'a Order,
         query: &Query,
         grounds: &'a Grounds,
+        longest: &'a [usize],
         is_bound: bool,
     ) -> Result<Finder<'a>, Memory>
-        requires { AreGrounds (is_before order.now) query.now.mode query.now.len edges.now
+        requires grounds { AreGrounds (is_before order.now) query.now.mode query.now.len edges.now
             grounds.now }
+        requires longest { AreLongest (is_before order.now) query.now.mode query.now.len
+            (edges_of_table edges.now) (classes_of edges.now) longest.now }
         ensures ready { IfOk result IsReady }
         ensures table { IfOk result (λ finder. finder.table.now ≡ edges.now) }
         ensures order { IfOk result (λ finder. finder.order.now ≡ order.now) }
@@ -127,6 +135,7 @@ impl<'a> Finder<'a> {
             holders: &grounds.holders,
             closers: &grounds.closers,
             begins: &grounds.begins,
+            longest,
             is_bound,
             len: query.len() as usize,
             cap: query.max() as usize + 1,
@@ -233,6 +242,9 @@ impl Finder<'_> {
         if signature.len() == self.len {
             return Ok(());
         }
+        if self.is_full(signature) {
+            return Ok(());
+        }
         let reached = self.reached(alloc, signature, spans, steps)?;
         self.grow_on(alloc, signature, &reached, signature[0], steps, found)
     }
@@ -310,6 +322,17 @@ impl Finder<'_> {
             return Ok(());
         }
         self.grow(alloc, longer.as_slice(), spans, steps, found)
+    }
+
+    // Whether a signature has as many classes as a cycle with an edge of its first one has edges at most. Then none goes on from it.
+    fn is_full(&self, signature: &[usize]) -> bool
+        requires { 0 < length signature.now }
+        ensures { IsTrue result → IsFull self.now.longest.now signature.now }
+    {
+        match self.longest.get(signature[0]) {
+            Some(&most) => signature.len() >= most,
+            None => false,
+        }
     }
 
     // Whether a cycle may have this signature, as far as its last class and its first one tell.

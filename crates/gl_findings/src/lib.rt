@@ -15,6 +15,7 @@ mod finder;
 mod grounds;
 mod grouped;
 mod laws;
+mod lengths;
 mod listing;
 mod models;
 mod parallel;

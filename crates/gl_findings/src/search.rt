@@ -5,12 +5,16 @@ ghost use Rattle.gl_edges.specs.declared.edge.Edge.{Edge};
 ghost use Rattle.gl_edges.specs.declared.edge.Sample.{Sample};
 ghost use Rattle.gl_segments.specs.Clocks.{is_before};
 ghost use Rattle.gl_cycles.specs.Listed.{listed_cycles};
+ghost use Rattle.gl_filters.specs.Picked.{edges_of_table};
+ghost use Rattle.gl_findings.specs.Findings.{classes_of};
 ghost use Rattle.gl_findings.specs.Listed.{listed_findings};
+ghost use Rattle.gl_findings.specs.bodies.Lengths.{AreLongest};
 ghost use Rattle.gl_findings.specs.bodies.Told.{AreGrounds};
 
 use crate::finder::Finder;
 use crate::grounds::Grounds;
 use crate::grouped::{findings_of_cycles, findings_of_cycles_parallel};
+use crate::lengths::longest_of;
 use crate::parallel::first_findings;
 use gl_cycles::{Found, edges_sought, edges_sought_parallel, first_steps, search, search_parallel};
 use gl_edges::EdgeList;
@@ -43,7 +47,8 @@ fn found_within(
         (λ soon. IfSome soon
         (λ found. found ≡ listed_findings query.now (is_before order.now) edges.now)) }
 {
-    let finder = Finder::of(alloc, edges, order, query, grounds, true)?;
+    let unknown: Vec<usize> = Vec::new(alloc);
+    let finder = Finder::of(alloc, edges, order, query, grounds, &unknown, true)?;
     match finder.findings_within(alloc, steps, count)? {
         Some(findings) => Ok(Some(Found::listed(findings, query.max() as usize))),
         None => Ok(None),
@@ -173,6 +178,25 @@ fn none_found_parallel(
     Ok(none_without_cycle(alloc, &first, query))
 }
 
+// How many edges a cycle has at most, by the class of one of them.
+fn longest_by_class(
+    alloc: Global,
+    edges: &EdgeList,
+    order: &Order,
+    query: &Query,
+    grounds: &Grounds,
+) -> Result<Vec<usize>, Memory>
+    requires { AreGrounds (is_before order.now) query.now.mode query.now.len edges.now grounds.now }
+    ensures { IfOk result
+        (λ longest. AreLongest (is_before order.now) query.now.mode query.now.len
+        (edges_of_table edges.now) (classes_of edges.now) longest.items) }
+{
+    let sought = Sought::of(edges, order, query);
+    let limits = sought.limits_by_edge(alloc, &grounds.kept)?;
+    let longest = longest_of(alloc, &grounds.classes, &limits)?;
+    Ok(longest)
+}
+
 // The findings that a search lists that is told this.
 fn first_found(
     alloc: Global,
@@ -185,7 +209,8 @@ fn first_found(
     ensures { IfOk result
         (λ found. found ≡ listed_findings query.now (is_before order.now) edges.now) }
 {
-    let finder = Finder::of(alloc, edges, order, query, grounds, false)?;
+    let longest = longest_by_class(alloc, edges, order, query, grounds)?;
+    let finder = Finder::of(alloc, edges, order, query, grounds, &longest, false)?;
     let found = finder.first_findings(alloc)?;
     Ok(Found::listed(found, query.max() as usize))
 }
@@ -203,7 +228,8 @@ fn first_found_parallel(
     ensures { IfOk result
         (λ found. found ≡ listed_findings query.now (is_before order.now) edges.now) }
 {
-    let finder = Finder::of(alloc, edges, order, query, grounds, false)?;
+    let longest = longest_by_class(alloc, edges, order, query, grounds)?;
+    let finder = Finder::of(alloc, edges, order, query, grounds, &longest, false)?;
     let found = first_findings(rt, alloc, &finder)?;
     Ok(Found::listed(found, query.max() as usize))
 }

@@ -12,6 +12,7 @@ use Rattle.gl_findings.specs.bodies.Grounds.{AreModels, IsNextClass}
 use Rattle.gl_findings.specs.bodies.Running.{AreRunners}
 use Rattle.gl_findings.specs.bodies.Passing.{ArePassages}
 use Rattle.gl_findings.specs.bodies.Spanning.{AreReached, HaveSpans}
+use Rattle.gl_findings.specs.bodies.Lengths.{AreLongest}
 use Rattle.gl_findings.specs.bodies.Growing.{finding, block, blocks_below}
 use Rattle.gl_findings.specs.declared.finder.Finder.{Finder}
 use Rattle.gl_findings.specs.declared.parallel.ByClass.{ByClass}
@@ -51,6 +52,9 @@ pub record IsReady (s : Finder) : Type 0 where
       s.among_models.ground.flags.now 0 s.holders.now
   pub closed_by : AreClosers (edges_of_table s.table.now)
       s.among_models.ground.flags.now 0 s.closers.now
+  -- and how long a cycle is at most, by the class of one of its edges
+  pub longest : AreLongest (is_before s.order.now) s.mode s.len (edges_of_table s.table.now)
+      (classes_of s.table.now) s.longest.now
   -- and the spans of single models
   pub begin : AreReached s.mode (edges_of_table s.table.now)
       (classes_of s.table.now) s.among_models.ground.flags.now s.len [] s.begins.now

@@ -5,7 +5,7 @@ use Rattle.gl_segments.specs.Clocks.{is_before}
 use Rattle.gl_findings.proofs.Below.{grown_room, finding_room}
 use Rattle.gl_cycles.specs.Cycles.{cycles_in}
 use Rattle.gl_findings.specs.bodies.Finding.{finding_of}
-use Rattle.gl_findings.proofs.Prepared.{none_open, nothing_more, begin, step, lower, alone, whole}
+use Rattle.gl_findings.proofs.Prepared.{none_open, nothing_more, begin, step, lower, alone, whole, full}
 use Rattle.gl_findings.proofs.Spanned.{spans_on}
 use Rattle.gl_filters.specs.Picked.{edges_of_table}
 use Rattle.gl_findings.specs.Findings.{classes_of}
@@ -17,6 +17,16 @@ grow-returns-then-signature-self-clause-grown t c =
     let s = c.args.self.now in
     alone s c.requires.ready c.args.signature.now _ _
     (omega (arith, c.args.found.now.ok.0, c.len.ensures, length-map c.args.found.now.items (λ cycle. cycle.items))) (omega arith) c.in_ok-add_shown.ensures.grown
+
+-- no cycle's signature goes on from it
+pub grow-returns-then-is_full-clause-grown : goal.grow-returns-then-is_full-clause-grown
+grow-returns-then-is_full-clause-grown t c =
+    let s = c.args.self.now in
+    let signature = c.args.signature.now in
+    let short = c.requires.short in
+    let room = finding_room (is_before s.order.now) s.mode s.len s.table.now signature s.cap (map (λ cycle. cycle.items) c.args.found.now.items)
+    (omega (arith, c.args.found.now.ok.0, c.len.ensures, length-map c.args.found.now.items (λ cycle. cycle.items))) in
+    full s c.requires.ready signature _ _ (omega (arith, short, c.if-signature-self.false)) (omega (arith, room, ap length c.in_ok-add_shown.ensures.grown)) (c.is_full.ensures c.if-is_full.true) c.in_ok-add_shown.ensures.grown
 
 pub grow-grow_on-requires : goal.grow-grow_on-requires
 grow-grow_on-requires t c =

@@ -92,5 +92,6 @@ returns-clause-ready c = record {
   told = search rules;
   held_by = search rules;
   closed_by = search rules;
+  longest = search rules;
   begin = search rules;
 }
