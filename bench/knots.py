@@ -14,6 +14,7 @@ The status is 1 where two answers differ.
 
 import argparse
 import os
+import re
 import subprocess
 import sys
 import tempfile
@@ -25,6 +26,9 @@ from families import FAMILIES
 HERE = os.path.dirname(os.path.realpath(__file__))
 LAUNCHER = os.path.join(os.path.dirname(HERE), "goodlock")
 FOLDER = os.environ.get("BENCH_DIR", "/tmp/goodlock-bench")
+
+# The shape of several others behind each other.
+TOGETHER = "together"
 
 # The options of bench/make_trace.py, or of bench/families.py for a family, for each shape, by size; behind `ask` what is
 # asked in place of --query.
@@ -185,7 +189,32 @@ SHAPES = {
     "gui": {"small": [""], "large": ["--gated 1 --gates 1 --inner 0"]},
     "frames": {"small": [""], "large": ["--no-rendered"]},
     "actors": {"small": [""], "large": ["--dispatched 0"]},
+    # Two of them in one program, as parts that know nothing of each other: what helps one of both doesn't help the other.
+    TOGETHER: {
+        "small": ["early-and-late --threads 600 + nested-locks", "few-threads --segments 100 + windows"],
+        "large": [
+            "modules + windows",
+            "gate-subsets + nested-locks",
+            "phases --threads 250 --sections 2000 --depth 4 + two-orders",
+            "phases --threads 250 --sections 2000 --depth 4 + windows",
+        ],
+    },
 }
+
+
+def text_of(shape, settings):
+    """The text of a trace, by its shape and its settings."""
+    if shape == TOGETHER:
+        parts = [part.partition(" ") for part in settings.split(" + ")]
+        return "".join(marked(text_of(name, rest), f"{number}.") for number, (name, _, rest) in enumerate(parts))
+    script, *words = ["families.py"] if shape in FAMILIES else ["make_trace.py", "--shape"]
+    maker = [sys.executable, os.path.join(HERE, script), *words, shape, *settings.split()]
+    return subprocess.run(maker, stdout=subprocess.PIPE, text=True, check=True).stdout
+
+
+def marked(text, mark):
+    """The text with a mark before the name of each thread, lock and place."""
+    return re.sub(r"^(.*?)\|(\w+)\((.*?)\)\|", rf"{mark}\1|\2({mark}\3)|{mark}", text, flags=re.MULTILINE)
 
 
 class Run(typing.NamedTuple):
@@ -275,9 +304,8 @@ def main():
                 settings, _, asked = row.partition(" ask ")
                 query = (asked or options.query).split()
                 with tempfile.NamedTemporaryFile(suffix=".std") as trace:
-                    script, *words = ["families.py"] if shape in FAMILIES else ["make_trace.py", "--shape"]
-                    maker = [sys.executable, os.path.join(HERE, script), *words, shape, *settings.split()]
-                    subprocess.run(maker, stdout=trace, check=True)
+                    trace.write(text_of(shape, settings).encode())
+                    trace.flush()
                     results = [[] for _ in programs]
                     for turn in range(options.runs):
                         for (_, command, count), seen in zip(programs, results):

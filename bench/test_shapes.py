@@ -472,3 +472,16 @@ def test_families_are_shapes_of_knots():
     for family in FAMILIES:
         for row in knots.SHAPES[family]["small"] + knots.SHAPES[family]["large"]:
             families.parser_of_options().parse_args([family, *row.partition(" ask ")[0].split()])
+
+
+def test_a_mark_stands_before_each_name():
+    text = "T0|fork(T1)|a.c:1\nT0|acq(l m)|f(x)|y\n"
+    assert knots.marked(text, "1.") == "1.T0|fork(1.T1)|1.a.c:1\n1.T0|acq(1.l m)|1.f(x)|y\n"
+
+
+def test_traces_together_have_what_each_has():
+    settings = "pool --waves 2 --lasting 0 + windows --threads 20 --sections 30"
+    one, other = (knots.text_of(*part.split(" ", 1)) for part in settings.split(" + "))
+    counted = [stats_of(text, "--max", "100000") for text in (one, other, knots.text_of(knots.TOGETHER, settings))]
+    assert all(counted[2][count] == counted[0][count] + counted[1][count] for count in (*COUNTS, "cycles"))
+    assert min(counted[0]["edges"], counted[1]["edges"]) > 0
