@@ -13,6 +13,7 @@ report isn't trusted: the edges are the trace's own, and each listed cycle is ju
 isn't checked, nor `more`, nor that a finding is shown by its first cycle.
 """
 
+import functools
 import json
 import math
 import re
@@ -81,6 +82,30 @@ class Held:
         self.mode, self.segment, self.location = mode, segment, location
 
 
+@functools.lru_cache(maxsize=1000)  # a line may be there very often
+def read_fields(line):
+    """Thread, word, operand and location of a line that tells an event; nothing for one that is passed over; or what is wrong
+    with it, whatever stands before it."""
+    if len(line) > LINE_LIMIT:
+        return "line too long"
+    if line == b"":
+        return None
+    fields = line.split(b"|", 2)
+    if len(fields) < 3:
+        return ["no bar", "no location field"][len(fields) - 1]
+    name, call, location = fields
+    if name == b"":
+        return "no thread"
+    word, parenthesis, operand = call.partition(b"(")
+    if word not in WATCHED:
+        return None
+    if parenthesis == b"" or not operand.endswith(b")") or operand == b")":
+        return "bad operand"
+    if word in LINKS and operand[:-1] == name:
+        return "thread forks or joins itself"
+    return name, word, operand[:-1], location
+
+
 class Trace:
     """What the text tells: names with their numbers, edges with their samples, and the steps between segments."""
 
@@ -103,24 +128,10 @@ class Trace:
 
     def read(self, line):
         """Takes the line's event; or answers what is wrong with the line."""
-        if len(line) > LINE_LIMIT:
-            return "line too long"
-        if line == b"":
-            return None
-        fields = line.split(b"|", 2)
-        if len(fields) < 3:
-            return ["no bar", "no location field"][len(fields) - 1]
-        name, call, location = fields
-        if name == b"":
-            return "no thread"
-        word, parenthesis, operand = call.partition(b"(")
-        if word not in WATCHED:
-            return None
-        if parenthesis == b"" or not operand.endswith(b")") or operand == b")":
-            return "bad operand"
-        operand = operand[:-1]
-        if word in LINKS and operand == name:
-            return "thread forks or joins itself"
+        told = read_fields(line)
+        if not isinstance(told, tuple):
+            return told
+        name, word, operand, location = told
         thread = self.threads.get(name)
         held = self.held[thread] if thread is not None else {}
         entry = held.get(self.locks.get(operand))

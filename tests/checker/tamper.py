@@ -11,6 +11,7 @@ answer beforehand must come. A PROGRAM that has `check` must answer like tests/c
 """
 
 import argparse
+import collections
 import copy
 import functools
 import json
@@ -364,9 +365,9 @@ def is_as_known(known, answer, before):
     return answer[: len(known)] == known
 
 
-@functools.lru_cache(maxsize=2)
+@functools.lru_cache(maxsize=8)
 def judged(text, trace):
-    """What tests/checker/check.py judges, once for all that is compared with it."""
+    """What tests/checker/check.py judges, once for all that is compared with it: also where a change left all as it was."""
     return check.judge(text, trace)
 
 
@@ -441,6 +442,7 @@ class Tests:
     def __init__(self, program, has_check, has_format_2):
         self.program, self.has_check, self.has_format_2 = program, has_check, has_format_2
         self.passed = self.failed = self.skipped = 0
+        self.right = collections.deque(maxlen=4)  # what the program was given last and answered rightly
 
     def that(self, name, is_right, told):
         self.passed, self.failed = self.passed + is_right, self.failed + (not is_right)
@@ -448,13 +450,15 @@ class Tests:
             print(f"{name}: {told}")
 
     def by_program(self, name, text, trace):
-        """The program's answer is that of tests/checker/check.py, byte for byte."""
+        """The program's answer is that of tests/checker/check.py, byte for byte. It isn't asked twice for the same bytes."""
         if not self.has_check:
             return
         if not self.has_format_2 and is_of_format_2(text):
             self.skipped += 1
             return
         given = text + b"\n" + trace
+        if given in self.right:
+            return
         expected = shown(given)
         got = compare.run([self.program, "check"], given)
         if got != expected:
@@ -467,6 +471,7 @@ class Tests:
                 f"answers differ on {path}\n    check.py: {compare.show(expected)}\n    program: {compare.show(got)}",
             )
         else:
+            self.right.append(given)
             self.that(name, True, "")
 
 

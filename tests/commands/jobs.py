@@ -11,6 +11,7 @@ processors, with the same status. The last line is `N passed, N failed`.
 """
 
 import argparse
+import functools
 import os
 import pathlib
 import random
@@ -20,7 +21,8 @@ import tempfile
 import threading
 
 TOP = pathlib.Path(__file__).resolve().parents[2]
-SHAPES = ("few-locks", "many-locks", "forks", "readers", "connections", "ordinary-names")
+LARGEST = "ordinary-names"
+SHAPES = ("few-locks", "many-locks", "forks", "readers", "connections", LARGEST)
 # lines that are no events, or faults of a line alone
 OTHERS = (b"", b"T0|w(x)|3", b"T0|req(l)|4", b"T0|rel(never)|5", b"new|acq(l)|6", b"T1|fork(new2)|7")
 FAULTS = (b"T0", b"T0|acq(a)", b"|acq(a)|1", b"T0|acq()|1", b"T0|fork(T0)|1", b"x" * 65537, b"y" * 700000)
@@ -28,12 +30,23 @@ WORDS = ("replay", "stats", "predict --json", "predict --findings", "live --json
 JOBS = (2, 3, 4, 9, 0)
 
 
+def made(*words):
+    """The lines of a trace of these options."""
+    done = subprocess.run([sys.executable, TOP / "bench/make_trace.py", *words], capture_output=True, check=True)
+    return done.stdout.split(b"\n")[:-1]
+
+
+@functools.lru_cache(maxsize=None)
+def made_largest():
+    return made("--shape", LARGEST)
+
+
 def shape_of(rng):
-    """The lines of a trace."""
-    events = rng.choice((3, 50, 2000, 20000, 60000))
-    words = ["--shape", rng.choice(SHAPES), "--events", str(events), "--seed", str(rng.randrange(1000))]
-    made = subprocess.run([sys.executable, TOP / "bench/make_trace.py", *words], capture_output=True, check=True)
-    return made.stdout.split(b"\n")[:-1]
+    """The lines of a trace. The largest one is the same whatever its events and seed, and takes long to make."""
+    events, shape, seed = rng.choice((3, 50, 2000, 20000, 60000)), rng.choice(SHAPES), rng.randrange(1000)
+    if shape == LARGEST:
+        return [*made_largest()]
+    return made("--shape", shape, "--events", str(events), "--seed", str(seed))
 
 
 def text_of(rng):
@@ -43,14 +56,17 @@ def text_of(rng):
         lines.insert(rng.randrange(len(lines) + 1), rng.choice(OTHERS))
     if rng.random() < 0.4:
         lines.insert(rng.randrange(len(lines) + 1), rng.choice(FAULTS))
-    ends = (b"\n", b"\r\n") if rng.random() < 0.3 else (b"\n",)
-    text = b"".join(line + rng.choice(ends) for line in lines)
+    if rng.random() < 0.3:
+        text = b"".join(line + rng.choice((b"\n", b"\r\n")) for line in lines)
+    else:
+        text = b"\n".join(lines) + b"\n"
     return text if rng.random() < 0.7 else text.rstrip(b"\r\n")
 
 
 def pour(pipe, text, rng):
     """Writes the text into a pipe, in parts of any size."""
     sizes = [rng.choice((1, 100, 4096, 65536, 200000)) for _ in range(40)]
+    text = memoryview(text)  # of which parts are no copies
     with pipe:
         for size in sizes + [len(text)]:
             part, text = text[:size], text[size:]

@@ -113,11 +113,11 @@ def threads_that_look_for_edges(program):
 
 
 def ring_under_gates():
-    """A trace without a cycle that it takes long to search: 15,600 events of threads that go from one of four layers of locks on
+    """A trace without a cycle that it takes long to search: 12,000 events of threads that go from one of four layers of locks on
     to the next one, round, each time under two of seven gates. A cycle would have four edges, and so eight gates: of any two
     or three edges that can't be told. And under two locks of the thread's own, so that few edges are alike."""
     draws, lines = random.Random(1), []
-    for section in range(1300):
+    for section in range(1000):
         thread, layer = f"T{draws.randrange(60)}", draws.randrange(4)
         own = [f"own{thread}.{number}" for number in sorted(draws.sample(range(5), 2))]
         gates = [f"gate{number}" for number in sorted(draws.sample(range(7), 2))]

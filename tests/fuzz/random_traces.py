@@ -52,12 +52,12 @@ class Maker:
     def acquire(self, thread, lock, place=None):
         random_ = self.random
         stack = self.stack.setdefault(thread, [])
-        held = [is_shared for held, is_shared in stack if held == lock]
+        outermost = next((is_shared for held, is_shared in stack if held == lock), None)
         is_shared = random_.random() < self.shared
-        if held and held[0] and random_.random() >= self.upgrades:
+        if outermost and random_.random() >= self.upgrades:
             is_shared = True
         self.line(thread, f"{ACQUIRES[random_.random() < self.tried][is_shared]}({lock})", place)
-        stack.append((lock, held[0] if held else is_shared))
+        stack.append((lock, is_shared if outermost is None else outermost))
 
     def release(self, thread, at):
         lock, is_shared = self.stack[thread].pop(at)
@@ -141,10 +141,11 @@ class Maker:
 def joined(random_, made):
     """The lines as text: LF, CR LF or a mixture, with or without the last line end."""
     style = random_.random()
-    text = b""
+    pieces = []
     for line in made:
         end = b"\n" if style < 0.6 else b"\r\n" if style < 0.8 else random_.choice([b"\n", b"\r\n", b"\n\n", b"\r\r\n"])
-        text += line.encode() + end
+        pieces += line.encode(), end
+    text = b"".join(pieces)
     if random_.random() < 0.25:
         text = text.rstrip(b"\n")
     return text

@@ -13,6 +13,7 @@ from outside. The last line is `N passed, N failed`, with one for each answer.
 
 import argparse
 import concurrent.futures
+import contextlib
 import os
 import pathlib
 import random
@@ -68,9 +69,9 @@ def pieces_of(random_, text):
 class Child:
     """The program, with an input that stays open until the answer is asked for. It is ended after five minutes."""
 
-    def __init__(self, program, words, prepare=None):
+    def __init__(self, program, words):
         pipe = subprocess.PIPE
-        self.child = subprocess.Popen([program, *words], stdin=pipe, stdout=pipe, stderr=pipe, preexec_fn=prepare)
+        self.child = subprocess.Popen([program, *words], stdin=pipe, stdout=pipe, stderr=pipe)
         self.timer = threading.Timer(300, self.child.kill)
         self.timer.start()
 
@@ -106,13 +107,19 @@ class Child:
         return output, errors, self.child.returncode
 
 
+@contextlib.contextmanager
+def on_one_core():
+    """What this thread starts meanwhile runs on one core: a child has the cores of the thread that makes it."""
+    cores = os.sched_getaffinity(0)
+    os.sched_setaffinity(0, [min(cores)])
+    yield
+    os.sched_setaffinity(0, cores)
+
+
 def run(program, words, pieces, is_alone):
     """The answer; on one core where it is alone. After five minutes its status tells of a signal."""
-
-    def prepare():
-        os.sched_setaffinity(0, [min(os.sched_getaffinity(0))])
-
-    child = Child(program, words, prepare if is_alone else None)
+    with on_one_core() if is_alone else contextlib.nullcontext():
+        child = Child(program, words)
     child.give(pieces)
     return child.answer()
 

@@ -840,7 +840,7 @@ static struct {
     goodlock_names names;
     ucontext_t back, threads[MAX_RUNNING];
     bool is_running[MAX_RUNNING], is_counted; /* whether the count had each number that was answered */
-    uint32_t current;
+    uint32_t current, switches, steps;        /* the thread that goes on; switches that are left; steps so far */
     uint32_t codes[MAX_RUNNING][MAX_ASKED], numbers[MAX_RUNNING][MAX_ASKED];
 } now;
 
@@ -848,12 +848,6 @@ static __thread bool is_stepped; /* whether this thread is in a coroutine */
 static char locks_at[3];
 static char text_at[1][2] = {"a"};
 static char stacks[MAX_RUNNING][64 * 1024];
-
-static void step(void)
-{
-    if (is_stepped)
-        swapcontext(&now.threads[now.current], &now.back);
-}
 
 static void mention_asked(int thread)
 {
@@ -883,16 +877,43 @@ static struct {
 } schedule;
 
 /* The threads that may go on, the one that did so last at first; how many. */
-static uint32_t may_go_on(uint32_t last, uint32_t switches, uint32_t *threads)
+static uint32_t may_go_on(uint32_t *threads)
 {
     uint32_t count = 0;
-    const bool goes_on = last != NONE && now.is_running[last];
+    const bool goes_on = now.current != NONE && now.is_running[now.current];
     if (goes_on)
-        threads[count++] = last;
+        threads[count++] = now.current;
     for (uint32_t t = 0; t < MAX_RUNNING; t++)
-        if (now.is_running[t] && t != last && (!goes_on || switches > 0))
+        if (now.is_running[t] && t != now.current && (!goes_on || now.switches > 0))
             threads[count++] = t;
     return count;
+}
+
+/* The thread that goes on: by the schedule as far as it is known, and then without switches. NONE once all have come to
+   an end, or where they take too many steps. */
+static uint32_t next_thread(void)
+{
+    uint32_t threads[MAX_RUNNING], choice = 0;
+    const uint32_t count = may_go_on(threads);
+    if (count == 0 || now.steps == MAX_STEPS)
+        return NONE;
+    now.steps++;
+    if (count > 1) {
+        if (schedule.made == schedule.known)
+            schedule.chosen[schedule.known++] = 0;
+        choice = schedule.chosen[schedule.made];
+        schedule.of[schedule.made++] = count;
+    }
+    now.switches -= choice > 0 && threads[0] == now.current;
+    return now.current = threads[choice];
+}
+
+/* A thread that goes on itself is not left for it, which takes most of the time. */
+static void step(void)
+{
+    const uint32_t own = now.current, next = is_stepped ? next_thread() : own;
+    if (next != own)
+        swapcontext(&now.threads[own], next == NONE ? &now.back : &now.threads[next]);
 }
 
 static void start(uint32_t thread)
@@ -906,10 +927,9 @@ static void start(uint32_t thread)
     makecontext(context, (void (*)(void))mention_asked, 1, (int)thread);
 }
 
-/* Runs the scenario by the schedule as far as it is known, and then without switches; whether it came to an end. */
+/* Runs the scenario by the schedule; whether it came to an end. */
 static bool run_once(void)
 {
-    uint32_t last = NONE, switches = now.scenario->switches, threads[MAX_RUNNING], count, steps = 0;
     now.names = nothing;
     if (goodlock_names_open(now.scenario->most, &now.names) != GOODLOCK_OK)
         return false;
@@ -917,22 +937,15 @@ static bool run_once(void)
     memset(now.numbers, 0xff, sizeof now.numbers);
     for (uint32_t t = 0; t < MAX_RUNNING; t++)
         start(t);
-    schedule.made = 0;
-    for (; (count = may_go_on(last, switches, threads)) > 0 && steps < MAX_STEPS; steps++) {
-        uint32_t choice = 0;
-        if (count > 1) {
-            if (schedule.made == schedule.known)
-                schedule.chosen[schedule.known++] = 0;
-            choice = schedule.chosen[schedule.made];
-            schedule.of[schedule.made++] = count;
-        }
-        switches -= choice > 0 && threads[0] == last;
-        last = now.current = threads[choice];
+    schedule.made = now.steps = 0;
+    now.switches = now.scenario->switches;
+    now.current = NONE;
+    for (uint32_t next; (next = next_thread()) != NONE;) {
         is_stepped = true;
-        swapcontext(&now.back, &now.threads[last]);
+        swapcontext(&now.back, &now.threads[next]);
         is_stepped = false;
     }
-    return steps < MAX_STEPS;
+    return now.steps < MAX_STEPS;
 }
 
 /* The next schedule in order; whether there is one. */

@@ -62,9 +62,8 @@ def lines_of(text):
 
 def depth(events, lock):
     """Acquires less releases of the lock among these events of one thread."""
-    acquires = sum(1 for e in events if e[0] in ACQUIRES and e[1] == lock)
-    releases = sum(1 for e in events if e[0] in RELEASES and e[1] == lock)
-    return acquires - releases
+    words = [word for word, operand, _ in events if operand == lock]
+    return sum(word in ACQUIRES for word in words) - sum(word in RELEASES for word in words)
 
 
 def held(events):
@@ -124,17 +123,19 @@ def judge(line, kept, query):
     if word in LINKS and operand == thread:
         raise ValueError("thread forks or joins itself")
     before = [event for acting, event in kept if acting == thread]
-    if word in RELEASES and depth(before, operand) == 0:
+    depth_before = depth(before, operand)
+    if word in RELEASES and depth_before == 0:
         return STRAY
     if word in ACQUIRES:
-        if depth(before, operand) == 0 and len(held(before)) == HELD_LIMIT:
+        if depth_before == 0 and len(held(before)) == HELD_LIMIT:
             raise ValueError("too many locks held")
-        if depth(before, operand) == DEPTH_LIMIT:
+        if depth_before == DEPTH_LIMIT:
             raise ValueError("lock taken too often")
-        if depth(before, operand) > 0 and held_mode(before, operand) == SHARED and MODES[word] == EXCLUSIVE:
+        if depth_before > 0 and held_mode(before, operand) == SHARED and MODES[word] == EXCLUSIVE:
             raise ValueError("shared lock taken exclusively")
     event = (thread, (word, operand, location))
-    if len(threads_of(kept + [event])) > query.threads:
+    events = kept + [event]  # each of which names two threads at most
+    if 2 * len(events) > query.threads and len(threads_of(events)) > query.threads:
         raise ValueError("too many threads")
     return event
 

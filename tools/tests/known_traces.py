@@ -115,14 +115,14 @@ def processes_in(folder):
     return found
 
 
-def wait_for(condition, what):
-    """Waits until this is so; what it answered."""
+def wait_for(condition, what, pause=0.02):
+    """Waits until this is so; what it answered. The pause between two looks is longer where a look takes long."""
     limit = time.monotonic() + LIMIT
     while time.monotonic() < limit:
         answer = condition()
         if answer:
             return answer
-        time.sleep(0.02)
+        time.sleep(pause)
     raise AssertionError("waited in vain for " + what)
 
 
@@ -187,7 +187,7 @@ def ended(recorder, command, number=signal.SIGKILL, after=None, lines=None):
     lines are recorded."""
     running, process = start(recorder, command)
     if lines is not None:
-        wait_for(lambda: recorded_lines(recorder) >= lines, "%d lines" % lines)
+        wait_for(lambda: recorded_lines(recorder) >= lines, "%d lines" % lines, pause=0.3)
     elif after is None:
         wait_until_all_wait(process)
     else:

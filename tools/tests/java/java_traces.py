@@ -11,6 +11,8 @@ JAVA_RECORD = os.path.join(TOOLS, "goodlock-java")
 SOURCES = os.path.join(TESTS, "java")
 MARKS = marks_of(SOURCES, "//")
 NEEDED = ("java", "javac")
+# Of a compiler's short run most would go into making it faster.
+QUICK = "-XX:TieredStopAtLevel=1"
 ASM = "/usr/share/java/asm-commons.jar"
 PAIR = """
     main|acq(Object@@a#1)|@monitor_a
@@ -20,7 +22,7 @@ PAIR = """
 
 
 def program(name, *arguments):
-    return ["java", "-XX:TieredStopAtLevel=1", "-cp", "classes", "Locks", name, *arguments]
+    return ["java", QUICK, "-cp", "classes", "Locks", name, *arguments]
 
 
 def record(name, *options, arguments=(), command=None):
@@ -73,9 +75,15 @@ def all_of_java():
     return found
 
 
+def compile_classes(source, place, debug="-g", javac="javac"):
+    done = subprocess.run(
+        [javac, "-J" + QUICK, debug, "-d", place, source], stdout=subprocess.PIPE, stderr=subprocess.STDOUT
+    )
+    assert done.returncode == 0, done.stdout.decode()
+
+
 def compile_source(name, text, javac="javac"):
     """A class of its own, into the folder `own`."""
     with open(name + ".java", "w") as file:
         file.write(text)
-    done = subprocess.run([javac, "-g", "-d", "own", name + ".java"], stdout=subprocess.PIPE, stderr=subprocess.STDOUT)
-    assert done.returncode == 0, done.stdout.decode()
+    compile_classes(name + ".java", "own", javac=javac)

@@ -1,11 +1,9 @@
 """Threads and their names; repeats, which are left out; and the places of events."""
 
-import os
 import re
-import subprocess
 
 import pytest
-from java_traces import MARKS, PAIR, SOURCES, compile_source, expect, record
+from java_traces import MARKS, PAIR, QUICK, compile_source, expect, record
 from known_traces import compare, edges_of, expand
 
 pytestmark = pytest.mark.usefixtures("classes")
@@ -91,12 +89,11 @@ def test_callers_of_synchronized_methods():
     compare(places_of(run)[:6], expand("\n".join(called), MARKS))
 
 
+@pytest.mark.usefixtures("classes_without_lines")
 @pytest.mark.parametrize("compiled_to", ["classes", "no-lines"])
 def test_callers_leave_the_place_as_it_is(compiled_to):
-    if compiled_to == "no-lines":
-        compile_without_lines()
     for name in ("synchronizedMethods", "monitors", "conditions", "references"):
-        command = ["java", "-cp", compiled_to, "Locks", name]
+        command = ["java", QUICK, "-cp", compiled_to, "Locks", name]
         alone = places_of(record(None, command=command))
         for frames in ("2", "5"):
             innermost = [place.split("<")[0] for place in places_of(record(None, "--frames", frames, command=command))]
@@ -128,14 +125,9 @@ def test_native_caller():
     compare(places_of(run), ["Main.java:6<java.lang.Class.forName0", "Main.java:8<java.lang.Class.forName0"])
 
 
-def compile_without_lines():
-    done = subprocess.run(["javac", "-g:none", "-d", "no-lines", os.path.join(SOURCES, "Locks.java")])
-    assert done.returncode == 0, "javac failed"
-
-
+@pytest.mark.usefixtures("classes_without_lines")
 def test_without_line_numbers():
     """The place is a method and the number of an instruction in it."""
-    compile_without_lines()
     lines = record(None, command=["java", "-cp", "no-lines", "Locks", "monitors"]).lines()
     words = [
         re.fullmatch(r"main\|(\w+)\(Object@Locks\.<clinit>\+\d+#1\)\|Locks\.monitors\+\d+", line) for line in lines
