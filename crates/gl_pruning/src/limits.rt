@@ -81,7 +81,8 @@ impl Sought<'_> {
     ) -> bool
         requires { position < length self.now.table.now }
         ensures { IsTrue result → (e : Edge)
-            → slice_get (edges_of_table self.now.table.now) position ≡ Some e → is_kept ≡ true
+            → slice_get (edges_of_table self.now.table.now) position ≡ Some e
+            → is_kept ≡ true
             → component_in covered.now ends.held ≡ component_in covered.now ends.wanted
             → HaveIn self.now.mode turns.now covered.now (component_in covered.now ends.held) e }
     {

@@ -45,8 +45,8 @@ pub(crate) enum Reason {
 
 /// The reasons, in their order.
 pub(crate) fn reasons() -> [Reason; 6]
-    ensures { result
-        ≡ Stuck ∷ Through ∷ Alike ByKind ∷ NoWay ∷ Alike ByThread ∷ Alike BySegment ∷ [] }
+    ensures { result ≡ Stuck ∷ Through ∷ Alike ByKind
+        ∷ NoWay ∷ Alike ByThread ∷ Alike BySegment ∷ [] }
 {
     [
         Reason::Stuck,
