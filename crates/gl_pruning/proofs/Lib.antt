@@ -10,6 +10,7 @@ pub mod ByKinds
 pub mod Closing
 pub mod Fewer
 pub mod InComponents
+pub mod InShares
 pub mod OfOneKind
 pub mod Owned
 pub mod Partnered

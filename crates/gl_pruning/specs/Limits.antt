@@ -12,7 +12,7 @@ module _ (before : Segment → Segment → Bool) (mode : Mode) (len : ℕ) (edge
       (cycle : List Edge) → All (Contains edges) cycle → IsCycle before mode len cycle
       → Contains cycle e → length cycle ≤ limit
 
-  -- so it is for the edge at a position, and the number says as much as len does at least
+  -- so it is for the edge at a position, and the number is no more than len
   pub record IsLimit (position limit : ℕ) : Type 0 where
     pub some : 0 < limit
     pub short : limit ≤ len

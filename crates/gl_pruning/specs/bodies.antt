@@ -1,4 +1,5 @@
 -- The words of loops and private functions. No public contract cites them.
+pub mod Components
 pub mod Covers
 pub mod Epochs
 pub mod Exclusions
@@ -10,6 +11,7 @@ pub mod Numbers
 pub mod Owners
 pub mod Partners
 pub mod Ranks
+pub mod Shares
 pub mod Turns
 pub mod Users
 pub mod Walks

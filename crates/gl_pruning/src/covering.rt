@@ -4,8 +4,8 @@
 //! first among chains of threads and locks that are held around edges, and where these are many, among the locks that edges hold and
 //! want as well. Nothing of this is proved, and nothing relies on it but for speed: components and exclusions are checked. So a number
 //! that is out of range, which none is, is passed over.
-use crate::components::{Step, components};
 use crate::exclusions::Exclusion;
+use crate::labels::labels_of;
 use crate::limits::Covered;
 use crate::numbers::Ends;
 use crate::sought::Sought;
@@ -33,30 +33,6 @@ pub(crate) fn covered_by(
         exclusions.push(exclusions_of(alloc, sought, turns, places)?)?;
     }
     Ok(Covered { labels, exclusions })
-}
-
-// For each lock the number of its component.
-fn labels_of(
-    alloc: Global,
-    ends: &[Ends],
-    locks: usize,
-    kept: &[bool],
-) -> Result<Vec<usize>, Memory> {
-    let mut steps = Vec::new(alloc);
-    for (ends, &is_kept) in ends.iter().zip(kept) {
-        let step = Step {
-            from: ends.held,
-            to: ends.wanted,
-        };
-        if is_kept && steps.last() != Some(&step) {
-            steps.push(step)?;
-        }
-    }
-    let mut labels = Vec::with_capacity(alloc, locks)?;
-    for label in components(alloc, locks, &steps)?.iter() {
-        labels.push(label.unwrap_or(0))?;
-    }
-    Ok(labels)
 }
 
 // The places of the edges inside each component that are kept.

@@ -11,12 +11,13 @@ ghost use Rattle.gl_segments.specs.Clocks.{is_before};
 ghost use Rattle.gl_filters.specs.Picked.{edges_of_table};
 ghost use Rattle.gl_pruning.specs.Limits.{IsLimit, AreLimits};
 ghost use Rattle.gl_pruning.specs.Sought.{KeepsSought};
-ghost use Rattle.gl_pruning.specs.bodies.Covers.{component_in, NoneGoesBack, HaveIn, AreCovered, AreChecked};
+ghost use Rattle.gl_pruning.specs.bodies.Covers.{component_in, HaveIn, AreCovered, AreChecked};
 ghost use Rattle.gl_pruning.specs.bodies.Walks.{IsNumbered};
 ghost use Rattle.gl_pruning.specs.declared.numbers.Ends.{Ends};
 
 use crate::covering::{covered_by, forget_unnamed};
 use crate::exclusions::{Exclusion, is_one_of};
+use crate::labels::none_goes_back;
 use crate::no_way::label;
 use crate::numbers::{Ends, Numbers};
 use crate::sought::Sought;
@@ -41,19 +42,6 @@ impl Covered {
         ensures { result ≡ component_in self.now lock }
     {
         label(&self.labels, lock)
-    }
-
-    // Whether along no edge that is kept the number of the component falls.
-    fn none_goes_back(&self, ends: &[Ends], kept: &[bool]) -> bool
-        requires { length kept.now ≡ length ends.now }
-        ensures { IsTrue result → NoneGoesBack self.now ends.now kept.now }
-    {
-        for i in 0..ends.len() {
-            if kept[i] && self.component(ends[i].held) > self.component(ends[i].wanted) {
-                return false;
-            }
-        }
-        true
     }
 
     // Whether the exclusions of a component have the edge, or there are none.
@@ -186,7 +174,7 @@ impl Sought<'_> {
             (λ limits. AreLimits (is_before self.now.order.now) self.now.mode self.now.len
             (edges_of_table self.now.table.now) limits.items) }
     {
-        if !covered.none_goes_back(ends, kept) {
+        if !none_goes_back(&covered.labels, ends, kept) {
             return self.same_limits(alloc);
         }
         if !self.are_covered(turns, covered, ends, kept) {

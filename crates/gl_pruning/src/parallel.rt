@@ -3,14 +3,21 @@
 //! The positions of a table are dealt out to parts. In each part a thread leaves out edges of its own,
 //! and knows nothing of the others. An edge stays that stays by each of them.
 ghost use Rattle.std.specs.Prelude.{◌≡◌, ◌<◌, [], Some, false, length, slice_get, All, IfOk, OnOk};
+ghost use Rattle.gl_segments.specs.Clocks.{is_before};
 ghost use Rattle.gl_filters.specs.Picked.{edges_of_table};
+ghost use Rattle.gl_pruning.specs.OffCycles.{KeepsCycles};
 ghost use Rattle.gl_pruning.specs.Alone.{LeavesOutAlone};
 ghost use Rattle.gl_pruning.specs.Sought.{KeepsSought, StayLeftOut, GoesOnSeeking};
+ghost use Rattle.gl_pruning.specs.bodies.Shares.{AreShares};
 
 use crate::parts::Part;
 use crate::reasons::{ALL_EFFORT, Reason, count_set, reasons};
+use crate::shares::Shares;
 use crate::sought::Sought;
+use gl_edges::{Edge, Sample};
 use gl_event::Memory;
+use gl_filters::Mode;
+use gl_segments::Order;
 use rayon::prelude::*;
 use std::alloc::Global;
 use std::thread::Threads;
@@ -156,6 +163,94 @@ fn leave_out_parallel(
     }
 }
 
+// Leaves out edges for all reasons, without a look at components.
+fn leave_out_by_reasons_parallel(
+    rt: &(impl Threads + Sync),
+    alloc: Global,
+    sought: &Sought<'_>,
+    effort: usize,
+    kept: &mut Vec<bool>,
+) -> Result<(), Memory>
+    requires kept { KeepsSought sought.now kept.old.items }
+    ensures { OnOk result (GoesOnSeeking sought.now kept.old.items kept.new.items) }
+{
+    for reason in reasons() {
+        leave_out_parallel(rt, alloc, sought, reason, effort, kept)?;
+    }
+    Ok(())
+}
+
+// The same as [`Sought::kept_within`], on several threads.
+fn kept_within_parallel(
+    rt: &(impl Threads + Sync),
+    alloc: Global,
+    sought: &Sought<'_>,
+    effort: usize,
+) -> Result<Vec<bool>, Memory>
+    requires { 0 < sought.now.len }
+    ensures { IfOk result (λ kept. KeepsSought sought.now kept.items) }
+{
+    let mut kept = sought.kept_at_first(alloc)?;
+    let shorter = sought.shortened(alloc, &kept)?;
+    leave_out_by_reasons_parallel(rt, alloc, &shorter, effort, &mut kept)?;
+    Ok(kept)
+}
+
+// Which edges of a share stay where cycles are sought among them alone.
+fn kept_of_share_parallel(
+    rt: &(impl Threads + Sync),
+    alloc: Global,
+    table: &[(Edge, Sample)],
+    order: &Order,
+    mode: Mode,
+    len: usize,
+    effort: usize,
+) -> Result<Vec<bool>, Memory>
+    requires { 0 < len }
+    ensures { IfOk result
+        (λ stay. KeepsCycles (is_before order.now) mode len (edges_of_table table.now)
+        stay.items) }
+{
+    let sought = Sought {
+        table,
+        order,
+        mode,
+        len,
+    };
+    kept_within_parallel(rt, alloc, &sought, effort)
+}
+
+// Leaves out edges for all reasons, in each share by itself.
+fn leave_out_apart_parallel(
+    rt: &(impl Threads + Sync),
+    alloc: Global,
+    sought: &Sought<'_>,
+    shares: &Shares,
+    effort: usize,
+    kept: &mut Vec<bool>,
+) -> Result<(), Memory>
+    requires some { 0 < sought.now.len }
+    requires shares { AreShares sought.now shares.now }
+    requires kept { KeepsSought sought.now kept.old.items }
+    ensures { OnOk result (GoesOnSeeking sought.now kept.old.items kept.new.items) }
+{
+    for number in 0..shares.count {
+        let share = sought.share(alloc, shares, number)?;
+        let effort = shares.effort_of(effort, share.positions.len());
+        let stay = kept_of_share_parallel(
+            rt,
+            alloc,
+            &share.table,
+            sought.order,
+            sought.mode,
+            sought.len,
+            effort,
+        )?;
+        sought.leave_out_of_share(shares, number, &share, &stay, kept);
+    }
+    Ok(())
+}
+
 /// The same as [`Sought::leave_out_in_turn`], on several threads. Ways back are looked for up to three times,
 /// each time with so much effort, and as long as some edge has none; the other reasons are gone through once.
 ///
@@ -170,10 +265,13 @@ pub fn leave_out_in_turn_parallel(
     requires kept { KeepsSought sought.now kept.old.items }
     ensures { OnOk result (GoesOnSeeking sought.now kept.old.items kept.new.items) }
 {
-    for reason in reasons() {
-        leave_out_parallel(rt, alloc, sought, reason, effort, kept)?;
+    if sought.len == 0 {
+        return leave_out_by_reasons_parallel(rt, alloc, sought, effort, kept);
     }
-    Ok(())
+    match sought.shares(alloc, kept)? {
+        Some(shares) => leave_out_apart_parallel(rt, alloc, sought, &shares, effort, kept),
+        None => leave_out_by_reasons_parallel(rt, alloc, sought, effort, kept),
+    }
 }
 
 /// The same as [`Sought::kept_edges`], on several threads.

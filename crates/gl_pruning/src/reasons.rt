@@ -4,7 +4,7 @@
 //! epoch where a run has some, and then those that are alone among edges of their own thread. The others are left out for one reason after the other, the cheaper ones
 //! first: those beside which none may stand; those whose way back leads through others of their thread, or of a lock that they are
 //! made under; by kind, since there may be many edges of each kind; those that have no way back; by kind and thread; and single ones by their segments. Where some are, others may lie on no loop any more.
-ghost use Rattle.std.specs.Prelude.{◌≡◌, ◌∷◌, [], IfOk, OnOk, count_by};
+ghost use Rattle.std.specs.Prelude.{◌≡◌, ◌<◌, ◌∷◌, [], IfOk, OnOk, count_by};
 ghost use Rattle.gl_filters.specs.Picked.{edges_of_table};
 ghost use Rattle.gl_pruning.specs.Alone.{LeavesOutAlone};
 ghost use Rattle.gl_pruning.specs.Sought.{KeepsSought, GoesOnSeeking};
@@ -82,11 +82,31 @@ impl Sought<'_> {
         Ok(kept)
     }
 
-    /// Leaves out edges for all reasons, with so much effort for each. Where a reason left out some, it is gone
-    /// through once more, but for all the effort.
+    /// Leaves out edges for all reasons, with so much effort for each; where they lie in several components of the lock-order graph, in
+    /// the greatest of these by themselves, which share the effort. Where a reason left out some, it is gone through once more,
+    /// but for all the effort.
     ///
     /// Err where memory was refused.
     pub fn leave_out_in_turn(
+        &self,
+        alloc: Global,
+        effort: usize,
+        kept: &mut Vec<bool>,
+    ) -> Result<(), Memory>
+        requires { KeepsSought self.now kept.old.items }
+        ensures { OnOk result (GoesOnSeeking self.now kept.old.items kept.new.items) }
+    {
+        if self.len == 0 {
+            return self.leave_out_by_reasons(alloc, effort, kept);
+        }
+        match self.shares(alloc, kept)? {
+            Some(shares) => self.leave_out_apart(alloc, &shares, effort, kept),
+            None => self.leave_out_by_reasons(alloc, effort, kept),
+        }
+    }
+
+    /// The same by what is known of the edges as they stand here, without a look at components.
+    pub(crate) fn leave_out_by_reasons(
         &self,
         alloc: Global,
         effort: usize,
@@ -185,6 +205,17 @@ impl Sought<'_> {
             Reason::Alike(grain) => self.leave_out_alike(alloc, grain, part, kept),
             Reason::NoWay => self.leave_out_without_way(alloc, part, kept),
         }
+    }
+
+    /// Which edges stay with so much effort for each reason, where paths grow no longer than cycles can be: for each a flag.
+    pub(crate) fn kept_within(&self, alloc: Global, effort: usize) -> Result<Vec<bool>, Memory>
+        requires { 0 < self.now.len }
+        ensures { IfOk result (λ kept. KeepsSought self.now kept.items) }
+    {
+        let mut kept = self.kept_at_first(alloc)?;
+        let shorter = self.shortened(alloc, &kept)?;
+        shorter.leave_out_by_reasons(alloc, effort, &mut kept)?;
+        Ok(kept)
     }
 
     /// Which edges may be in a cycle, as far as all reasons tell: for each a flag.

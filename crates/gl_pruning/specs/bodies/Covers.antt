@@ -1,28 +1,22 @@
 -- Components of the lock-order graph, and exclusions that have all edges of one.
-use Rattle.std.specs.Prelude.{◌≡◌, ℕ, ◌<◌, ◌≤◌, Bool, true, List, length, slice_get, Some}
+use Rattle.std.specs.Prelude.{◌≡◌, ℕ, ◌<◌, Bool, true, List, length, slice_get, Some}
 use Rattle.std.specs.Global.{Vec}
 use Rattle.gl_edges.specs.declared.edge.Edge.{Edge}
 use Rattle.gl_filters.specs.Picked.{edges_of_table}
 use Rattle.gl_filters.specs.declared.query.Mode.{Mode}
-use Rattle.gl_pruning.specs.Sought.{KeepsSought}
 use Rattle.gl_pruning.specs.declared.exclusions.Exclusion.{Exclusion}
 use Rattle.gl_pruning.specs.declared.limits.Covered.{Covered}
 use Rattle.gl_pruning.specs.declared.numbers.Ends.{Ends}
 use Rattle.gl_pruning.specs.declared.sought.Sought.{Sought}
 use Rattle.gl_pruning.specs.declared.turns.Turn.{Turn}
+use Rattle.gl_pruning.specs.bodies.Components.{AreComponents}
 use Rattle.gl_pruning.specs.bodies.Exclusions.{IsOneOf}
 use Rattle.gl_pruning.specs.bodies.Turns.{TakeTurns}
-use Rattle.gl_pruning.specs.bodies.Walks.{IsNumbered, label_at}
+use Rattle.gl_pruning.specs.bodies.Walks.{label_at}
 
 -- the component of a lock, by numbers
 abbrev pub component_in : Covered → ℕ → ℕ
 component_in covered lock = label_at covered.labels.items lock
-
--- along no edge that is kept does the number of the component fall
-abbrev pub NoneGoesBack : Covered → List Ends → List Bool → Type 0
-NoneGoesBack covered ends kept =
-    (i : ℕ) (d : Ends) → slice_get kept i ≡ Some true → slice_get ends i ≡ Some d
-    → component_in covered d.held ≤ component_in covered d.wanted
 
 -- the exclusions of this component, where there are some, have the edge
 pub record HaveIn (mode : Mode) (turns : List Turn) (covered : Covered) (component : ℕ)
@@ -41,8 +35,6 @@ AreCovered mode turns covered edges ends kept =
 -- what was checked of components, of exclusions and of turns
 pub record AreChecked (sought : Sought) (turns : List Turn) (covered : Covered) (ends : List Ends)
     (kept : List Bool) : Type 0 where
-  pub keeps : KeepsSought sought kept
-  pub numbered : IsNumbered (edges_of_table sought.table.now) ends
-  pub onward : NoneGoesBack covered ends kept
+  pub components : AreComponents sought covered.labels.items ends kept
   pub have : AreCovered sought.mode turns covered (edges_of_table sought.table.now) ends kept
   pub in_turn : TakeTurns sought.mode sought.order.now turns (edges_of_table sought.table.now) kept

@@ -19,8 +19,8 @@ returns-in-Some c =
       longest = λ e at cycle among is in_it.
           let (k, below, same) = in_it in
           let at_k = slice_get-get_or cycle k e below ∙ ap Some same in
-          let here = get_or_from_slice_get c.args.ends.now c.args.position _ (record { held = 0; wanted = 0 }) (ends_at s c.args.turns.now covered c.args.ends.now c.args.kept.now checked c.args.position e at) in
-          let there : slice_get covered.exclusions.items (component s c.args.turns.now covered c.args.ends.now c.args.kept.now checked e.held) ≡ Some exclusions = ap (slice_get covered.exclusions.items) (sym (c.component-component.ensures ∙ ap (λ d. component_in covered d.held) here))
+          let here = get_or_from_slice_get c.args.ends.now c.args.position _ (record { held = 0; wanted = 0 }) (ends_at s covered.labels.items c.args.ends.now c.args.kept.now checked.components c.args.position e at) in
+          let there : slice_get covered.exclusions.items (component s covered.labels.items c.args.ends.now c.args.kept.now checked.components e.held) ≡ Some exclusions = ap (slice_get covered.exclusions.items) (sym (c.component-component.ensures ∙ ap (λ d. component_in covered d.held) here))
           ∙ ap (λ l. slice_get l c.component-component.result) (sym c.deref.ensures.value) ∙ slice_get-get_or c.deref.result.now c.component-component.result exclusions c.in-Some.ensures.lookup.3.0 ∙ ap Some (sym c.in-Some.ensures.lookup.1) in
           let bound = no_longer s c.args.turns.now covered c.args.ends.now c.args.kept.now checked cycle among is k e at_k exclusions there some in
           omega (arith, bound, c.min.ensures, c.len.ensures, is.not_too_long);

@@ -1,0 +1,263 @@
+//! Parts of the lock-order graph by themselves.
+//!
+//! All edges of a cycle lie in one component of the lock-order graph. So edges may be left out among those of some components as if there
+//! were no others: the epochs of the run, how long a cycle can be and how much effort there is are then those of a part of the program that
+//! knows nothing of the others. The greatest components are looked at one by one, and all others together.
+//!
+//! Which components these are is not proved; it is [checked](crate::labels).
+ghost use Rattle.std.specs.Prelude.{◌≡◌, ◌+◌, ◌<◌, ◌≤◌, length, IfOk, IfSome, OnOk};
+ghost use Rattle.gl_filters.specs.Picked.{edges_of_table};
+ghost use Rattle.gl_pruning.specs.OffCycles.{KeepsCycles};
+ghost use Rattle.gl_pruning.specs.Sought.{KeepsSought, GoesOnSeeking};
+ghost use Rattle.gl_segments.specs.Clocks.{is_before};
+ghost use Rattle.gl_pruning.specs.bodies.Shares.{share_in, AreShares, HasEdgesBelow, AreOff};
+
+use crate::labels::{labels_of, none_goes_back};
+use crate::no_way::label;
+use crate::numbers::{Ends, Numbers};
+use crate::reasons::{ALL_EFFORT, count_set};
+use crate::sought::Sought;
+use gl_edges::{Edge, Sample};
+use gl_event::Memory;
+use gl_filters::Mode;
+use gl_segments::Order;
+use std::alloc::Global;
+
+// How many shares there are at most: one for each of the greatest components, and the last one for all others.
+const MOST: usize = 8;
+
+/// The edges that are kept, dealt out to shares by their components.
+#[derive(Drop)]
+pub(crate) struct Shares {
+    // for each edge the numbers of its locks
+    pub(crate) ends: Vec<Ends>,
+    // whether it is kept
+    pub(crate) kept: Vec<bool>,
+    // for each lock, by its number, that of its component
+    pub(crate) labels: Vec<usize>,
+    // for each component that of its share
+    pub(crate) by_component: Vec<usize>,
+    // how many shares there are
+    pub(crate) count: usize,
+}
+
+/// The edges of a share, with their samples, and their positions among all edges.
+#[derive(Drop)]
+pub(crate) struct Share {
+    pub(crate) table: Vec<(Edge, Sample)>,
+    pub(crate) positions: Vec<usize>,
+}
+
+impl Shares {
+    // The share of a lock.
+    fn share(&self, lock: usize) -> usize
+        ensures { result ≡ share_in self.now lock }
+    {
+        label(&self.by_component, label(&self.labels, lock))
+    }
+
+    /// How much effort a share of so many edges has of so much for all of them: as much as each other one, or as belongs to its edges.
+    pub(crate) fn effort_of(&self, effort: usize, edges: usize) -> usize {
+        if effort == ALL_EFFORT {
+            return ALL_EFFORT;
+        }
+        let of_edge = effort / count_set(&self.kept).max(1);
+        (effort / self.count.max(1)).max(of_edge.saturating_mul(edges))
+    }
+}
+
+impl Sought<'_> {
+    /// Shares of the edges that are kept, if they lie in more than one component.
+    ///
+    /// It takes four look-ups for each edge and two walks through the graph. Err where memory was refused.
+    pub(crate) fn shares(&self, alloc: Global, kept: &[bool]) -> Result<Option<Shares>, Memory>
+        requires { KeepsSought self.now kept.now }
+        ensures { IfOk result (λ found. IfSome found (λ shares. AreShares self.now shares)) }
+    {
+        let numbers = Numbers::of(alloc, self.table)?;
+        let ends = numbers.of_edges(alloc, self.table)?;
+        let labels = labels_of(alloc, &ends, numbers.count(), kept)?;
+        if !none_goes_back(&labels, &ends, kept) {
+            return Ok(None);
+        }
+        let sizes = sizes_of(alloc, &labels, &ends, kept)?;
+        let count = count_some(&sizes).min(MOST);
+        if count < 2 {
+            return Ok(None);
+        }
+        let by_component = dealt_out(alloc, &sizes)?;
+        let kept = Vec::from_slice(alloc, kept)?;
+        Ok(Some(Shares {
+            ends,
+            kept,
+            labels,
+            by_component,
+            count,
+        }))
+    }
+
+    // Adds the edge at a position to a share, if it is kept and lies in it.
+    fn add_to_share(
+        &self,
+        alloc: Global,
+        shares: &Shares,
+        number: usize,
+        position: usize,
+        share: &mut Share,
+    ) -> Result<(), Memory>
+        requires shares { AreShares self.now shares.now }
+        requires there { position < length self.now.table.now }
+        requires edges { HasEdgesBelow (edges_of_table self.now.table.now) shares.now number
+            position share.old }
+        ensures { OnOk result
+            (HasEdgesBelow (edges_of_table self.now.table.now) shares.now number
+            (position + 1) share.new) }
+    {
+        if !shares.kept[position] || shares.share(shares.ends[position].held) != number {
+            return Ok(());
+        }
+        let (edge, sample) = &self.table[position];
+        let edge = edge.copy(alloc)?;
+        share.table.push((edge, *sample))?;
+        share.positions.push(position)?;
+        Ok(())
+    }
+
+    /// The share with a number. Takes a look at each edge, and copies its own.
+    pub(crate) fn share(
+        &self,
+        alloc: Global,
+        shares: &Shares,
+        number: usize,
+    ) -> Result<Share, Memory>
+        requires { AreShares self.now shares.now }
+        ensures { IfOk result
+            (λ share. HasEdgesBelow (edges_of_table self.now.table.now) shares.now number
+            (length self.now.table.now) share) }
+    {
+        let mut share = Share {
+            table: Vec::new(alloc),
+            positions: Vec::new(alloc),
+        };
+        for position in 0..self.table.len() {
+            self.add_to_share(alloc, shares, number, position, &mut share)?;
+        }
+        Ok(share)
+    }
+
+    // Leaves out the edge at a place of a share, if it isn't one that stays.
+    fn leave_out_at_place(&self, share: &Share, stay: &[bool], kept: &mut Vec<bool>, place: usize)
+        requires there { place < length share.now.positions.items }
+        requires off { AreOff self.now share.now stay.now }
+        requires kept { KeepsSought self.now kept.old.items }
+        ensures { GoesOnSeeking self.now kept.old.items kept.new.items }
+    {
+        if !stay[place] {
+            kept[share.positions[place]] = false;
+        }
+    }
+
+    /// Leaves out those edges of a share that don't stay where cycles are sought among its edges alone.
+    pub(crate) fn leave_out_of_share(
+        &self,
+        shares: &Shares,
+        number: usize,
+        share: &Share,
+        stay: &[bool],
+        kept: &mut Vec<bool>,
+    )
+        requires shares { AreShares self.now shares.now }
+        requires edges { HasEdgesBelow (edges_of_table self.now.table.now) shares.now number
+            (length self.now.table.now) share.now }
+        requires stay { KeepsCycles (is_before self.now.order.now) self.now.mode self.now.len
+            (edges_of_table share.now.table.items) stay.now }
+        requires kept { KeepsSought self.now kept.old.items }
+        ensures { GoesOnSeeking self.now kept.old.items kept.new.items }
+    {
+        for place in 0..share.positions.len() {
+            self.leave_out_at_place(share, stay, kept, place);
+        }
+    }
+
+    /// Leaves out edges for all reasons, in each share by itself.
+    pub(crate) fn leave_out_apart(
+        &self,
+        alloc: Global,
+        shares: &Shares,
+        effort: usize,
+        kept: &mut Vec<bool>,
+    ) -> Result<(), Memory>
+        requires some { 0 < self.now.len }
+        requires shares { AreShares self.now shares.now }
+        requires kept { KeepsSought self.now kept.old.items }
+        ensures { OnOk result (GoesOnSeeking self.now kept.old.items kept.new.items) }
+    {
+        for number in 0..shares.count {
+            let share = self.share(alloc, shares, number)?;
+            let effort = shares.effort_of(effort, share.positions.len());
+            let stay = kept_of_share(alloc, &share.table, self.order, self.mode, self.len, effort)?;
+            self.leave_out_of_share(shares, number, &share, &stay, kept);
+        }
+        Ok(())
+    }
+}
+
+// Which edges of a share stay where cycles are sought among them alone.
+fn kept_of_share(
+    alloc: Global,
+    table: &[(Edge, Sample)],
+    order: &Order,
+    mode: Mode,
+    len: usize,
+    effort: usize,
+) -> Result<Vec<bool>, Memory>
+    requires { 0 < len }
+    ensures { IfOk result
+        (λ stay. KeepsCycles (is_before order.now) mode len (edges_of_table table.now)
+        stay.items) }
+{
+    let sought = Sought {
+        table,
+        order,
+        mode,
+        len,
+    };
+    sought.kept_within(alloc, effort)
+}
+
+// How many edges that are kept lie in each component.
+fn sizes_of(
+    alloc: Global,
+    labels: &[usize],
+    ends: &[Ends],
+    kept: &[bool],
+) -> Result<Vec<usize>, Memory> {
+    let mut sizes: Vec<usize> = vec![in alloc; 0; labels.len()]?;
+    for (ends, &is_kept) in ends.iter().zip(kept) {
+        if let Some(size) = sizes.get_mut(label(labels, ends.held)) {
+            *size = size.saturating_add(is_kept as usize);
+        }
+    }
+    Ok(sizes)
+}
+
+// How many of these sizes are more than nothing.
+fn count_some(sizes: &[usize]) -> usize {
+    sizes.iter().filter(|&&size| size > 0).count()
+}
+
+// For each component the number of its share.
+fn dealt_out(alloc: Global, sizes: &[usize]) -> Result<Vec<usize>, Memory> {
+    let mut by_size = Vec::with_capacity(alloc, sizes.len())?;
+    for (component, &size) in sizes.iter().enumerate() {
+        by_size.push((size, component))?;
+    }
+    by_size.sort_unstable();
+    let mut numbers: Vec<usize> = vec![in alloc; 0; sizes.len()]?;
+    for (place, (_, component)) in by_size.iter().rev().enumerate() {
+        if let Some(number) = numbers.get_mut(*component) {
+            *number = place.min(MOST - 1);
+        }
+    }
+    Ok(numbers)
+}
