@@ -99,6 +99,9 @@ class Crate:
     def build_rlib(self, flags, anew):
         with open(os.environ["CALLS"], "a") as calls:
             calls.write(f"{self.name} {' '.join(flags)}\n")
+        if "NICE" in os.environ:
+            with open(os.environ["NICE"], "a") as nice:
+                nice.write(f"{self.name} {os.getpriority(os.PRIO_PROCESS, 0)}\n")
         if self.name in os.environ["UNPROVED"].split():
             print("an open goal", file=self.out)
             return 1
@@ -257,14 +260,24 @@ def built_where_asked(clone):
 
 
 def processes_at_once(clone):
-    """Each crate has as many processes as there are jobs, and no more than twice as many run: of three that stand on one
-    two begin, and wait for each other."""
-    clone.write("crates.txt", CRATES.replace("goodlock:", "third: low\ngoodlock: third"))
-    clone.write("crates/third/src/lib.rt", "fn f() {}\n")
-    calls = clone.run(*WORDS, GOODLOCK_BUILD="1", JOBS="2", BESIDE="middle twin")[3]
+    """A crate on the longest chain has as many processes as there are jobs, any other one, and no more than twice as many run
+    as there are jobs: of four that stand on one three begin, and wait for each other."""
+    clone.write("crates.txt", CRATES.replace("goodlock:", "third: low\nfourth: low\ngoodlock: third fourth"))
+    for crate in ("third", "fourth"):
+        clone.write(f"crates/{crate}/src/lib.rt", "fn f() {}\n")
+    calls = clone.run(*WORDS, GOODLOCK_BUILD="1", JOBS="2", BESIDE="middle twin third")[3]
     equal((calls[:3], calls[-1]), (["share", "low --jobs 2", "end low"], "run"))
-    equal(sorted(calls[3:5]), ["middle --jobs 2", "twin --jobs 2"])
-    equal((calls[5][:3], calls.index("third --jobs 2") > 5), ("end", True))
+    equal(sorted(calls[3:6]), ["middle --jobs 1", "third --jobs 1", "twin --jobs 2"])
+    equal((calls[6][:3], calls.index("fourth --jobs 1") > 6), ("end", True))
+
+
+def stands_back(clone):
+    """What isn't on the longest chain leaves the processors to what is."""
+    nice = clone.tools / "nice"
+    clone.run(*WORDS, GOODLOCK_BUILD="1", JOBS="2", NICE=str(nice))
+    by_crate = {name: int(number) for name, number in map(str.split, nice.read_text().splitlines())}
+    equal((sorted(by_crate), by_crate["twin"]), (sorted(LIBRARIES), by_crate["low"]))
+    equal(by_crate["middle"] > by_crate["twin"], True)
 
 
 def progress_is_told(clone):
@@ -372,6 +385,7 @@ TESTS = (
     called_otherwise,
     built_where_asked,
     processes_at_once,
+    stands_back,
     progress_is_told,
     changed_source,
     what_is_no_source,

@@ -3,30 +3,60 @@
 
     prove.py [--jobs N] [CRATE ..]      (the program goodlock, where no crate is named)
 
-A crate begins once those that it stands on are proved, the one that leads the longest chain first. It gets as many
-processes as --jobs says (one for each processor, as long as there is memory for them), and twice as many run at once at
-the most: a check begins and ends with one process alone, and what stands beside it fills the others' time. Programs
-themselves are left to `rt run`. Standard output has a line for each crate that is done, and what a check said that
-failed. Status: 0 proved, 1 not proved, 2 the words were wrong, 3 the toolchain at hand can't be used so.
+A crate begins once those that it stands on are proved, the one that leads the longest chain first. On one of the longest
+chains, which say when the last crate is done, it gets as many processes as --jobs says (one for each processor, as long as
+there is memory for them). Any other gets one, which is the cheapest, and the more lines it could begin later by, the more
+it stands back: a check begins and ends with one process alone, and what stands beside it fills the others' time. Twice
+as many processes as --jobs says run at once at the most. Programs themselves are left to `rt run`. Standard output has a
+line for each crate that is done, and what a check said that failed. Status: 0 proved, 1 not proved, 2 the words were
+wrong, 3 the toolchain at hand can't be used so.
 """
 
 import argparse
 import os
 import sys
 import tempfile
+import threading
 import time
-from concurrent.futures import FIRST_COMPLETED, ThreadPoolExecutor, wait
+from concurrent.futures import FIRST_COMPLETED, Future, wait
 
 import toolchain
 
 
-def weigh(crates):
+# A chain that is as long as the longest but for this share of it is one of the longest.
+SHORT = 0.1
+# How nice a check is whose crate could begin later by all lines of the longest chain, and how nice one is at the most.
+NICE = 12
+NICEST = 10
+
+
+def lines(crate):
+    return crate.count(rb"\n")
+
+
+def chains_up(crates):
     """For each crate the lines on the longest chain of crates that begins with it, each standing on the one before."""
     chains = {}
     for crate in reversed(sorted(crates, key=lambda crate: len(crate.below()))):
         above = (chains[other] for other in chains if crate in other.deps)
-        chains[crate] = crate.count(rb"\n") + max(above, default=0)
+        chains[crate] = lines(crate) + max(above, default=0)
     return chains
+
+
+def chains_down(crates):
+    """For each crate the lines on the longest chain of crates that ends below it."""
+    chains = {}
+    for crate in sorted(crates, key=lambda crate: len(crate.below())):
+        below = (chains[other] + lines(other) for other in crate.deps if other in chains)
+        chains[crate] = max(below, default=0)
+    return chains
+
+
+def delays(crates):
+    """For each crate by how much of the longest chain it could begin later, without being the last that is done."""
+    up, down = chains_up(crates), chains_down(crates)
+    longest = max(up.values(), default=0)
+    return {crate: 1 - (up[crate] + down[crate]) / max(longest, 1) for crate in crates}
 
 
 def jobs_for(processes, idle, memory):
@@ -37,34 +67,44 @@ def jobs_for(processes, idle, memory):
 
 def in_order(crates, processes, work, told):
     """Calls work(crate, jobs) for each crate once those below it have passed; tells of each. Whether all passed."""
-    chains = weigh(crates)
+    chains, delay = chains_up(crates), delays(crates)
     left = sorted(crates, key=lambda crate: -chains[crate])
     running, passed, taken = {}, set(), {}
-    with ThreadPoolExecutor(2 * processes) as pool:
-        while left or running:
-            for crate in [crate for crate in left if passed.issuperset(crate.below())]:
-                idle = 2 * processes - sum(taken[crate] for crate in running.values())
-                memory = toolchain.free_memory()
-                if idle <= 0 or running and memory < toolchain.MEMORY_OF_A_CHECK:
-                    break
-                taken[crate] = jobs_for(processes, idle, memory)
-                left.remove(crate)
-                running[pool.submit(timed, work, crate, taken[crate])] = crate
-            if not running:
+    while left or running:
+        for crate in [crate for crate in left if passed.issuperset(crate.below())]:
+            idle = 2 * processes - sum(taken[crate] for crate in running.values())
+            memory = toolchain.free_memory()
+            if idle <= 0 or running and memory < toolchain.MEMORY_OF_A_CHECK:
                 break
-            for done in wait(running, return_when=FIRST_COMPLETED).done:
-                crate = running.pop(done)
-                jobs, well, said, seconds = done.result()
-                told(crate, jobs, well, said, seconds)
-                passed |= {crate} if well else set()
+            taken[crate] = jobs_for(processes, idle, memory) if delay[crate] < SHORT else 1
+            left.remove(crate)
+            running[begun(work, crate, taken[crate], min(int(NICE * delay[crate]), NICEST))] = crate
+        if not running:
+            break
+        for done in wait(running, return_when=FIRST_COMPLETED).done:
+            crate = running.pop(done)
+            jobs, well, said, seconds = done.result()
+            told(crate, jobs, well, said, seconds)
+            passed |= {crate} if well else set()
     return len(passed) == len(crates)
 
 
-def timed(work, crate, jobs):
-    """What work(crate, jobs) answers, with its jobs and its seconds on the clock."""
-    start = time.monotonic()
-    well, said = work(crate, jobs)
-    return jobs, well, said, time.monotonic() - start
+def begun(work, crate, jobs, nice):
+    """What work(crate, jobs) will have answered, with its jobs and its seconds on the clock. It works in a thread of its
+    own, and what that starts is as nice as it is."""
+    answer = Future()
+
+    def run():
+        try:
+            os.setpriority(os.PRIO_PROCESS, threading.get_native_id(), max(nice, os.getpriority(os.PRIO_PROCESS, 0)))
+            start = time.monotonic()
+            well, said = work(crate, jobs)
+            answer.set_result((jobs, well, said, time.monotonic() - start))
+        except BaseException as error:  # it is raised where the answer is asked for
+            answer.set_exception(error)
+
+    threading.Thread(target=run, daemon=True).start()
+    return answer
 
 
 def build_library(library, crate, jobs):
