@@ -8,8 +8,9 @@
 //! edge in a cycle, or none may lead it. Others have no way back: from the lock that such an edge wants no
 //! walk of edges that go with it leads to the lock that it holds; of many edges this is seen at once, where an owner, their thread or
 //! a lock that is held around them, alone joins parts of the graph. And where edges are alike, no round of
-//! kinds may go on from theirs. Where some were left out, ranks are made anew for those that stay. How ranks,
-//! epochs, ways and kinds are found is not proved; what is found is checked.
+//! kinds may go on from theirs. Where some were left out, ranks are made anew for those that stay. And no cycle leaves its component of
+//! the graph, so all of this is asked in each of the greatest components as if there were no others. How ranks,
+//! epochs, ways, kinds and components are found is not proved; what is found is checked.
 //!
 //! [`edges_sought`] leaves out all that is seen to be in no cycle. A search for which that is too dear at
 //! first takes a [`Sought`] and leaves out edges [on its way](Sought::leave_out_in_turn), with as much

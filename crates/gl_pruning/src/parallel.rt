@@ -246,7 +246,7 @@ fn leave_out_apart_parallel(
             sought.len,
             effort,
         )?;
-        sought.leave_out_of_share(shares, number, &share, &stay, kept);
+        sought.leave_out_of_share(&share, &stay, kept);
     }
     Ok(())
 }

@@ -157,20 +157,9 @@ impl Sought<'_> {
         }
     }
 
-    /// Leaves out those edges of a share that don't stay where cycles are sought among its edges alone.
-    pub(crate) fn leave_out_of_share(
-        &self,
-        shares: &Shares,
-        number: usize,
-        share: &Share,
-        stay: &[bool],
-        kept: &mut Vec<bool>,
-    )
-        requires shares { AreShares self.now shares.now }
-        requires edges { HasEdgesBelow (edges_of_table self.now.table.now) shares.now number
-            (length self.now.table.now) share.now }
-        requires stay { KeepsCycles (is_before self.now.order.now) self.now.mode self.now.len
-            (edges_of_table share.now.table.items) stay.now }
+    /// Leaves out the edges of a share, but for those that stay.
+    pub(crate) fn leave_out_of_share(&self, share: &Share, stay: &[bool], kept: &mut Vec<bool>)
+        requires off { AreOff self.now share.now stay.now }
         requires kept { KeepsSought self.now kept.old.items }
         ensures { GoesOnSeeking self.now kept.old.items kept.new.items }
     {
@@ -196,7 +185,7 @@ impl Sought<'_> {
             let share = self.share(alloc, shares, number)?;
             let effort = shares.effort_of(effort, share.positions.len());
             let stay = kept_of_share(alloc, &share.table, self.order, self.mode, self.len, effort)?;
-            self.leave_out_of_share(shares, number, &share, &stay, kept);
+            self.leave_out_of_share(&share, &stay, kept);
         }
         Ok(())
     }
