@@ -23,6 +23,9 @@ pub(super) enum Lists {
     // the piece across the ring has too: the first piece and the one across under one, and the others
     // under six
     Pairs(u32),
+    // so many pairs of threads, each with two locks of its own which they take in both orders, all under a gate lock of the
+    // pair but in the last one
+    Apart(u32),
 }
 
 // None where memory was refused.
@@ -34,6 +37,7 @@ pub(super) fn made(alloc: Global, lists: Lists) -> Option<Vec<Vec<Event>>> {
         Lists::UnderGates(threads, locks, gates) => ring_under_gates(alloc, threads, locks, gates),
         Lists::Rings(threads) => rings_of_all(alloc, threads),
         Lists::Pairs(threads) => ring_of_pairs(alloc, threads),
+        Lists::Apart(pairs) => pairs_apart(alloc, pairs),
     }
 }
 
@@ -150,6 +154,36 @@ fn ring_of_pairs(alloc: Global, threads: u32) -> Option<Vec<Vec<Event>>> {
         lists
             .push(gated_piece(alloc, piece % 8, piece, (piece + 1) % 16)?)
             .ok()?;
+    }
+    Some(lists)
+}
+
+// A thread takes two locks, under a gate lock or not.
+fn add_pair_of_locks(
+    alloc: Global,
+    lists: &mut Vec<Vec<Event>>,
+    gate: Option<u32>,
+    lock: u32,
+    next: u32,
+) -> Option<()> {
+    match gate {
+        Some(gate) => add_list(alloc, lists, &[Acq(gate, 1), Acq(lock, 2), Acq(next, 3)]),
+        None => add_list(alloc, lists, &[Acq(lock, 2), Acq(next, 3)]),
+    }
+}
+
+fn pairs_apart(alloc: Global, pairs: u32) -> Option<Vec<Vec<Event>>> {
+    let mut lists = Vec::new(alloc);
+    for pair in 0..pairs {
+        let first = pair.checked_mul(3)?;
+        let gate = if pair + 1 < pairs {
+            Some(first.checked_add(2)?)
+        } else {
+            None
+        };
+        let second = first.checked_add(1)?;
+        add_pair_of_locks(alloc, &mut lists, gate, first, second)?;
+        add_pair_of_locks(alloc, &mut lists, gate, second, first)?;
     }
     Some(lists)
 }

@@ -1,6 +1,6 @@
 //! Edges that the search leaves out.
 use super::asks::Ask;
-use super::lists::Lists::{Pairs, Rings, Told, UnderGates};
+use super::lists::Lists::{Apart, Pairs, Rings, Told, UnderGates};
 use super::{Case, expect, expect_all};
 use gl_filters::Mode;
 use gl_worked::ops::Op::{Acq, Fork, Join, Rel};
@@ -202,6 +202,15 @@ const CASES: &[Case] = &[
         asks: &[
             Ask::Limits(Mode::Basic, 8, &[4, 1, 1, 4, 1, 1, 4, 1, 1, 4, 1, 1]),
             Ask::Limits(Mode::Guarded, 8, &[2, 1, 1, 2, 1, 1, 2, 1, 1, 2, 1, 1]),
+        ],
+    },
+    // Twelve components of two locks, more than are looked at one by one. Only in the last one no gate lock keeps its edges apart.
+    Case {
+        name: "components, one by one",
+        lists: Apart(12),
+        asks: &[
+            Ask::Count(Mode::Basic, 4, 24),
+            Ask::Count(Mode::Guarded, 4, 2),
         ],
     },
     // Two threads take two locks, and two others that are forked once both are joined take them the other way round. So each
