@@ -22,7 +22,6 @@ from concurrent.futures import FIRST_COMPLETED, Future, wait
 
 import toolchain
 
-
 # A chain that is as long as the longest but for this share of it is one of the longest.
 SHORT = 0.1
 # How nice a check is whose crate could begin later by all lines of the longest chain, and how nice one is at the most.
