@@ -13,12 +13,14 @@ use Rattle.gl_event.specs.declared.events.Event.{Event}
 use Rattle.std.specs.Option.{option_map_or}
 use Rattle.gl_event.specs.declared.events.LockMode.{LockMode}
 use Rattle.gl_edges.specs.Edges.{least_samples, once, pair_at, edges_wanting, edges_after}
-use Rattle.gl_edges.specs.bodies.Gatherers.{AreBefore, Gathers, pair_for}
+use Rattle.gl_edges.specs.Known.{AreBefore, AreKnown, AreLearned}
+use Rattle.gl_edges.specs.bodies.Gatherers.{Gathers, pair_for}
 use Rattle.gl_edges.specs.Laws.{AreAmong}
 use Rattle.gl_edges.specs.Order.{sample_cmp}
 use Rattle.gl_edges.specs.bodies.Tables.{IsTableOf}
 use Rattle.gl_edges.specs.bodies.Seen.{edges_now}
 use Rattle.gl_edges.specs.Tracking.{Follows}
+use Rattle.gl_event.specs.States.{State, StandsAfter}
 use Rattle.gl_edges.specs.declared.edge.Edge.{Edge}
 use Rattle.gl_edges.specs.declared.edge.Sample.{Sample}
 use Rattle.gl_edges.specs.declared.gather.Gatherer.{Gatherer}
@@ -89,20 +91,20 @@ module _ (tracker : Tracker) (wanted : ℕ) (mode : LockMode) (loc : ℕ) where
 
   -- where all its edges stand among the pairs with earlier samples, the table has them
   pub table_seen : (known : List (Edge × Sample)) (pairs : List (Edge × Sample)) (seen : List Edge) → AreBefore seen pairs tracker.state.events
-      → ((edge : Edge) → Contains (edges_now tracker wanted mode) edge → Contains seen edge) → IsTableOf known pairs → IsTableOf known (pairs ++ more)
+      → ((edge : Edge) → Contains (edges_now tracker.thread tracker.state wanted mode) edge → Contains seen edge) → IsTableOf known pairs → IsTableOf known (pairs ++ more)
   table_seen known pairs seen before all is = table_stays known pairs more less is
     where
       less : HaveLess pairs more
       less edge sample at =
           let (h, there, same) = contains_map_from (pair_for tracker wanted mode loc) (edge, sample) tracker.state.held at in
-          let now : Contains (edges_now tracker wanted mode) edge =
-          subst (Contains (edges_now tracker wanted mode)) (ap (λ pair. pair.0) same) (contains_map (λ h. (pair_for tracker wanted mode loc h).0) h tracker.state.held there) in
+          let now : Contains (edges_now tracker.thread tracker.state wanted mode) edge =
+          subst (Contains (edges_now tracker.thread tracker.state wanted mode)) (ap (λ pair. pair.0) same) (contains_map (λ h. (pair_for tracker wanted mode loc h).0) h tracker.state.held there) in
           let (earlier, has, early) = before edge (all edge now) in
           (earlier, has, later_above sample earlier (subst (λ s. earlier.place < s.place) (ap (λ pair. pair.1) same) early))
 
   -- after it, its edges stand among the pairs
   pub before_more : (pairs : List (Edge × Sample)) (old new : List Edge) → AreBefore old pairs tracker.state.events
-      → ((edge : Edge) → Contains new edge → Contains old edge ⊎ Contains (edges_now tracker wanted mode) edge) → AreBefore new (pairs ++ more) (tracker.state.events + 1)
+      → ((edge : Edge) → Contains new edge → Contains old edge ⊎ Contains (edges_now tracker.thread tracker.state wanted mode) edge) → AreBefore new (pairs ++ more) (tracker.state.events + 1)
   before_more pairs old new before noted edge at =
       elim (noted edge at) [
         | inl was ↦
@@ -116,6 +118,44 @@ module _ (tracker : Tracker) (wanted : ℕ) (mode : LockMode) (loc : ℕ) where
               omega arith,
             )
       ]
+
+-- ---- an acquire that somebody else follows
+
+module _ (thread : ℕ) (es : List Event) (s : State) (stands : StandsAfter es s) (wanted : ℕ) (mode : LockMode) (loc : ℕ) (free : depth es wanted ≡ 0) (old : List Edge) where
+  abbrev tracker : Tracker
+  tracker = record { thread = thread; state = s }
+
+  tracked : Follows thread es tracker
+  tracked = record { of_thread = refl; stands = stands }
+
+  -- where its edges are known, those that it makes are
+  pub acquire_known : ((edge : Edge) → Contains (edges_now thread s wanted mode) edge → Contains old edge) → AreKnown old (edges_wanting thread es wanted mode loc)
+  acquire_known all edge sample at =
+      let there = pairs_all thread es tracker tracked wanted mode loc (edge, sample) (subst (λ pairs. Contains pairs (edge, sample)) (wanting_is thread es wanted mode loc free) at) in
+      let (h, here, same) = contains_map_from (pair_for tracker wanted mode loc) (edge, sample) s.held there in
+      all edge (subst (Contains (edges_now thread s wanted mode)) (ap (λ pair. pair.0) same) (contains_map (λ h. (pair_for tracker wanted mode loc h).0) h s.held here))
+
+  -- what is noted with it are edges that it makes
+  pub acquire_learned : (new : List Edge) → ((edge : Edge) → Contains new edge → Contains old edge ⊎ Contains (edges_now thread s wanted mode) edge) → AreLearned old (edges_wanting thread es wanted mode loc) new
+  acquire_learned new noted edge at =
+      elim (noted edge at) [
+        | inl was ↦ inl was
+        | inr now ↦
+            let (h, there, same) = contains_map_from (λ h. (pair_for tracker wanted mode loc h).0) edge s.held now in
+            let sample = (pair_for tracker wanted mode loc h).1 in
+            let made = pairs_made thread es tracker tracked wanted mode loc (edge, sample) (subst (λ e. Contains (map (pair_for tracker wanted mode loc) s.held) (e, sample)) same (contains_map (pair_for tracker wanted mode loc) h s.held there)) in
+            inr (sample, subst (λ pairs. Contains pairs (edge, sample)) (sym (wanting_is thread es wanted mode loc free)) made)
+      ]
+
+-- pairs of a later place whose edges stand among those already change no table
+pub known_stays : (pairs more : List (Edge × Sample)) (known : List Edge) (place : ℕ) → AreBefore known pairs place → AreKnown known more
+    → ((edge : Edge) (sample : Sample) → Contains more (edge, sample) → sample.place ≡ place) → once pairs ≡ once (pairs ++ more)
+known_stays pairs more known place before are at_place = once_stays pairs more less
+  where
+    less : HaveLess pairs more
+    less edge sample at =
+        let (earlier, has, early) = before edge (are edge sample at) in
+        (earlier, has, later_above sample earlier (subst (λ p. earlier.place < p) (sym (at_place edge sample at)) early))
 
 -- ---- what a gatherer knows
 

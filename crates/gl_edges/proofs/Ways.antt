@@ -158,7 +158,7 @@ held_more entries i entry within is = ap (λ e. map opened_of (take i entries) +
 
 -- the edges that an acquire makes now are those inside the locks that are held
 pub edges_are_now : (tracker : Tracker) (wanted : ℕ) (mode : LockMode)
-    → edges_inside tracker.thread (map opened_of tracker.state.held) (record { lock = wanted; mode = mode; first = tracker.state.segments }) ≡ edges_now tracker wanted mode
+    → edges_inside tracker.thread (map opened_of tracker.state.held) (record { lock = wanted; mode = mode; first = tracker.state.segments }) ≡ edges_now tracker.thread tracker.state wanted mode
 edges_are_now tracker wanted mode =
     let opened : Opened = record { lock = wanted; mode = mode; first = tracker.state.segments } in
     map-map (edge_inside tracker.thread (map opened_of tracker.state.held) opened) opened_of tracker.state.held
@@ -181,7 +181,7 @@ edges_are_now tracker wanted mode =
 -- the same, from what was asked of the tracked thread
 pub edges_now_inside : (tracker : Tracker) (wanted : ℕ) (mode : LockMode) (thread : ℕ) (entries : List HeldEntry) (segment : ℕ)
     → thread ≡ tracker.thread → entries ≡ tracker.state.held → segment ≡ tracker.state.segments
-    → edges_inside thread (map opened_of entries) (record { lock = wanted; mode = mode; first = segment }) ≡ edges_now tracker wanted mode
+    → edges_inside thread (map opened_of entries) (record { lock = wanted; mode = mode; first = segment }) ≡ edges_now tracker.thread tracker.state wanted mode
 edges_now_inside tracker wanted mode thread entries segment of_thread are in_segment =
     ap (λ t. edges_inside t (map opened_of entries) (record { lock = wanted; mode = mode; first = segment })) of_thread
     ∙ ap (λ es. edges_inside tracker.thread (map opened_of es) (record { lock = wanted; mode = mode; first = segment })) are

@@ -1,6 +1,7 @@
 pub mod Clashes
 pub mod Edges
 pub mod Guards
+pub mod Known
 pub mod Laws
 pub mod Numbered
 pub mod Order

@@ -48,7 +48,10 @@ impl Gatherer {
             self.old self.new) }
     {
         let room = self.batch.len().saturating_mul(2).saturating_add(SPARE);
-        if self.seen.note(tracker, wanted, mode, room)? {
+        if self
+            .seen
+            .note(tracker.thread, &tracker.state, wanted, mode, room)?
+        {
             return Ok(());
         }
         self.add_each(alloc, tracker, wanted, mode, loc)

@@ -8,7 +8,8 @@
 //!
 //! [`edges_of`] finds the edges of whole lists of events, [`Tracker`] those of one event after the
 //! other, and [`next_edges`] those of one event of a thread that somebody else follows, which
-//! [`add_next_edges`] puts behind those made before. All name an edge by its fields alone; where a thread
+//! [`add_next_edges`] puts behind those made before. [`Acquires`] do the same, and pass over acquires that the
+//! thread made before. All name an edge by its fields alone; where a thread
 //! makes it twice, the first place stays its sample. A [`Table`] is filled edge by edge in whatever order
 //! they come, and has each once with its least sample. The definitions stand in `specs/Edges.antt`, and
 //! the functions without a body say what holds of them in the words of the events.
@@ -16,6 +17,7 @@
 //! docs/GLOSSARY.md has its words beside those of the field.
 #![tactic(auto)]
 
+mod acquires;
 mod batch;
 mod clashes;
 mod edge;
@@ -31,6 +33,7 @@ mod seen;
 mod table;
 mod tracker;
 
+pub use acquires::Acquires;
 pub use edge::{Edge, Sample};
 pub use gather::edges_of;
 pub use guard_sets::GuardSets;

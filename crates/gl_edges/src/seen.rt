@@ -20,8 +20,7 @@ ghost use Rattle.gl_edges.specs.bodies.Seen.{edges_inside, edges_now, noted, ope
 ghost use Rattle.gl_edges.specs.declared.edge.Edge.{Edge};
 ghost use Rattle.gl_edges.specs.declared.seen.Opened.{Opened};
 
-use crate::tracker::Tracker;
-use gl_event::{HeldEntry, LockId, LockMode, MAX_HELD, Memory, ThreadId};
+use gl_event::{HeldEntry, LockId, LockMode, MAX_HELD, Memory, ThreadId, ThreadState};
 use std::alloc::Global;
 use std::marker::Model;
 
@@ -360,32 +359,40 @@ impl Seen {
         ensures { self.new ≡ [] }
     {
         self.thread = thread;
+        self.forget();
+    }
+
+    /// Forgets all acquires.
+    pub(crate) fn forget(&mut self)
+        ensures { self.new ≡ [] }
+    {
         self.tree.clear();
     }
 
-    /// Notes that the thread acquires a lock that it doesn't hold. The answer is `true` only where all
-    /// edges of the acquire were noted before.
+    /// Notes that the thread of which this is known acquires a lock that it doesn't hold. The answer is
+    /// `true` only where all edges of the acquire were noted before.
     ///
     /// It takes a step for each held lock. There are no more nodes than the room says. An acquire that
     /// is found again takes no memory, nor does one with no lock held, which isn't noted.
     pub(crate) fn note(
         &mut self,
-        tracker: &Tracker,
+        thread: ThreadId,
+        state: &ThreadState,
         wanted: LockId,
         mode: LockMode,
         room: usize,
     ) -> Result<bool, Memory>
         ensures known { IfOk result
             (λ known. IsTrue known → (edge : Edge)
-            → Contains (edges_now tracker.now wanted mode) edge → Contains self.old edge) }
+            → Contains (edges_now thread state.now wanted mode) edge → Contains self.old edge) }
         ensures noted { OnOk result
             ((edge : Edge) → Contains self.new edge
-            → Contains self.old edge ⊎ Contains (edges_now tracker.now wanted mode) edge) }
+            → Contains self.old edge ⊎ Contains (edges_now thread state.now wanted mode) edge) }
     {
-        if tracker.thread.number() != self.thread.number() {
+        if thread.number() != self.thread.number() {
             return Ok(false);
         }
-        let entries = tracker.state.entries();
+        let entries = state.entries();
         if entries.is_empty() {
             return Ok(false);
         }
@@ -395,7 +402,7 @@ impl Seen {
         let opened = Opened {
             lock: wanted,
             mode,
-            first: tracker.state.segment(),
+            first: state.segment(),
         };
         self.tree
             .note(entries.len(), Branch { parent, opened }, room)

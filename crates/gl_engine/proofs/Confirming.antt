@@ -242,7 +242,7 @@ module _ (session : ℕ) (limits : Bounds) (inputs : List LaneInput) (receipts :
     inputs_settled sent whole collecting same = record {
       lists_are = inputs_listed whole.collected collecting same;
       edges_are = subst (λ (b : Bounds). once (flat_map (λ s. s.sent) sent) ≡ edges (logs_of b.threads stream)) (sym same)
-          (dealt_edges limits.threads stream sent (length sent) (omega (arith, whole.some)) whole.made_are whole.shipped);
+          (dealt_edges limits.threads stream sent (length sent) whole.due (omega (arith, whole.some)) whole.made_are whole.table whole.shipped);
     }
 
     never_broken : (thread : ℕ) (why : Refused) → IsBroken limits inputs stream thread why → ⊥

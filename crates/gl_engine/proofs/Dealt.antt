@@ -92,14 +92,14 @@ pub dealt_at : (shards : ℕ) (pairs : List (Edge × Sample)) (shard : ℕ) → 
 unfolding dealt
 dealt_at shards pairs shard within = numbered_at (of_shard shards pairs) 0 shards shard within ∙ ap (λ k. Some (of_shard shards pairs k)) (let here : 0 + shard ≡ shard = omega arith in here)
 
--- the tables of all that was dealt are those of the lists
-pub dealt_edges : (threads : ℕ) (stream : List Note) (sent : List AllSent) (shards : ℕ) → 1 ≤ shards → AreMade threads stream (made_by stream) → map (λ s. s.sent) sent ≡ dealt shards (made_by stream)
-    → once (flat_map (λ s. s.sent) sent) ≡ edges (logs_of threads stream)
+-- the tables of all that was dealt are those of the lists, where each edge made is among it with its least sample
+pub dealt_edges : (threads : ℕ) (stream : List Note) (sent : List AllSent) (shards : ℕ) (due : List (Edge × Sample)) → 1 ≤ shards → AreMade threads stream (made_by stream) → once due ≡ once (made_by stream)
+    → map (λ s. s.sent) sent ≡ dealt shards due → once (flat_map (λ s. s.sent) sent) ≡ edges (logs_of threads stream)
 unfolding dealt
-dealt_edges threads stream sent shards some made are =
-    let pairs = made_by stream in
+dealt_edges threads stream sent shards due some made table are =
     ap once (sym (flat_map-map (λ list. list) (λ (s : AllSent). s.sent) sent) ∙ ap all_pairs are)
-    ∙ sym (union_of_once (map (of_shard shards pairs) (range_with_len 0 shards)))
-    ∙ ap union (map-map once (of_shard shards pairs) (range_with_len 0 shards))
-    ∙ shards_whole shards pairs some
-    ∙ same_once pairs (edges_made (logs_of threads stream)) made.from made.all
+    ∙ sym (union_of_once (map (of_shard shards due) (range_with_len 0 shards)))
+    ∙ ap union (map-map once (of_shard shards due) (range_with_len 0 shards))
+    ∙ shards_whole shards due some
+    ∙ table
+    ∙ same_once (made_by stream) (edges_made (logs_of threads stream)) made.from made.all

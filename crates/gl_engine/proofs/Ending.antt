@@ -13,10 +13,10 @@ use Rattle.gl_intake.specs.Stream.{has_ended, AreInOrder, IsRefusal}
 use Rattle.gl_intake.specs.declared.notes.Refused.{Refused}
 use Rattle.gl_shards.specs.Feeds.{AllSent, FeedId, Sending}
 use Rattle.gl_world.proofs.Lists.{same_some}
-use Rattle.gl_engine.specs.Dealing.{dealt, made_by}
+use Rattle.gl_engine.specs.Dealing.{dealt}
 use Rattle.gl_engine.specs.Collecting.{Collecting, as_of}
 use Rattle.gl_engine.specs.Gathering.{Gathering, AreEnded, AreEndedAfter, HasCollectedAll, HasRunThrough, IsFoundBroken, IsFoundGone, IsLeftBy, IsStoppedAt, IsStoppedInTurn}
-use Rattle.gl_engine.specs.bodies.Breaking.{first_of, HasLagged, HasStopped, IsBlamed, IsBroken, StopsWith}
+use Rattle.gl_engine.specs.bodies.Breaking.{first_of, HasLagged, HasStoppedIn, IsBlamed, IsBroken, StopsWith}
 use Rattle.gl_engine.specs.bodies.Whole.{KeepsUp}
 use Rattle.gl_engine.specs.declared.gathered.RunFault.{RunFault}
 use Rattle.gl_engine.specs.declared.gathered.RunFault.TheVariants as kept
@@ -133,7 +133,7 @@ none_ended = record { each = []; feeds_are = refl; sent_are = refl; kept_are = r
 
 -- ---- how a run went
 
-module _ (c : Collecting) (g : Gathering) (inputs : List LaneInput) (given outlets : List Sending) (feeds : map (λ o. o.feed) outlets ≡ map (λ o. o.feed) given) (limits : Bounds) (same : limits ≡ g.limits) where
+module _ (c : Collecting) (g : Gathering) (inputs : List LaneInput) (given outlets : List Sending) (feeds : map (λ o. o.feed) outlets ≡ map (λ o. o.feed) given) (limits : Bounds) (same : limits ≡ g.limits) (spares : Bool) where
   many : length outlets ≡ length given
   many = as_long (λ (o : Sending). o.feed) (λ (o : Sending). o.feed) outlets given feeds
 
@@ -149,34 +149,38 @@ module _ (c : Collecting) (g : Gathering) (inputs : List LaneInput) (given outle
   count = length-map outlets (λ (o : Sending). o.sent) ∙ many
 
   -- all was collected
-  collected_all : KeepsUp limits inputs g.stream outlets → ((thread : ℕ) → thread < limits.threads → has_ended thread g.stream ≡ true) → HasCollectedAll g
+  collected_all : KeepsUp spares limits inputs g.stream outlets → ((thread : ℕ) → thread < limits.threads → has_ended thread g.stream ≡ true) → HasCollectedAll g
   collected_all keeps all = record {
     in_order = subst (λ (b : Bounds). AreInOrder b g.stream) same keeps.collector.in_order;
     all_ended = subst (λ (b : Bounds). (thread : ℕ) → thread < b.threads → has_ended thread g.stream ≡ true) same all;
   }
 
   -- shipping stopped at a worker that was gone
-  gone_shipping : (shard : ℕ) → HasStopped (made_by g.stream) sent shard → (gone : Option ℕ) → AreEnded (map (λ o. o.feed) outlets) sent g.sent gone → IsFoundGone given g shard
+  gone_shipping : (shard : ℕ) → HasStoppedIn spares g.stream sent shard → (gone : Option ℕ) → AreEnded (map (λ o. o.feed) outlets) sent g.sent gone → IsFoundGone spares given g shard
   gone_shipping shard has gone ended =
       inl (record {
-        shipped = has.shipped;
-        stopped = subst (λ n. IsStoppedAt n (made_by g.stream) has.shipped shard) count has.stopped;
+        due = has.due;
+        are_due = has.are_due;
+        shipped = has.stopped.shipped;
+        stopped = subst (λ n. IsStoppedAt n has.due has.stopped.shipped shard) count has.stopped.stopped;
         gone = gone;
-        ended = ended_with has.shipped gone (has.dealt_are ∙ ap (λ n. dealt n has.shipped) count) ended;
+        ended = ended_with has.stopped.shipped gone (has.stopped.dealt_are ∙ ap (λ n. dealt n has.stopped.shipped) count) ended;
       })
 
   -- a turn went wrong
-  stopped_turn : (thread : ℕ) → HasLagged c.stream g.stream sent thread → (gone : Option ℕ) → AreEnded (map (λ o. o.feed) outlets) sent g.sent gone → IsStoppedInTurn c given g thread
+  stopped_turn : (thread : ℕ) → HasLagged spares c.stream g.stream sent thread → (gone : Option ℕ) → AreEnded (map (λ o. o.feed) outlets) sent g.sent gone → IsStoppedInTurn spares c given g thread
   stopped_turn thread has gone ended = record {
     before = has.before;
     later = has.later;
     turn = has.turn;
+    due = has.due;
+    are_due = has.are_due;
     gone = gone;
-    ended = ended_with (made_by has.before) gone (has.dealt_are ∙ ap (λ n. dealt n (made_by has.before)) count) ended;
+    ended = ended_with has.due gone (has.dealt_are ∙ ap (λ n. dealt n has.due) count) ended;
   }
 
   -- a lane broke
-  broken_at : length inputs ≡ g.limits.threads → (thread : ℕ) (why : Refused) → IsBroken limits inputs g.stream thread why → IsStoppedInTurn c given g thread → IsFoundBroken c given g thread why
+  broken_at : length inputs ≡ g.limits.threads → (thread : ℕ) (why : Refused) → IsBroken limits inputs g.stream thread why → IsStoppedInTurn spares c given g thread → IsFoundBroken spares c given g thread why
   broken_at known thread why broken stopped = record {
     known = (let there = slice_get_within inputs thread broken.came.input broken.came.here in omega (arith, there, known));
     note = as_of thread broken.note;
@@ -187,7 +191,7 @@ module _ (c : Collecting) (g : Gathering) (inputs : List LaneInput) (given outle
 
   module _ (left : IsLeftBy c g) (known : length inputs ≡ g.limits.threads) where
     -- this went wrong as all was gathered
-    stopped_by : (fault : RunFault) → g.fault ≡ Some fault → IsBlamed limits inputs g.stream fault → StopsWith c.stream g.stream sent fault → (gone : Option ℕ) → AreEnded (map (λ o. o.feed) outlets) sent g.sent gone → HasRunThrough c given g
+    stopped_by : (fault : RunFault) → g.fault ≡ Some fault → IsBlamed limits inputs g.stream fault → StopsWith spares c.stream g.stream sent fault → (gone : Option ℕ) → AreEnded (map (λ o. o.feed) outlets) sent g.sent gone → HasRunThrough spares c given g
     stopped_by kept.Memory is blamed stops gone ended = record {
       left = left;
       whole = λ none. absurd (let e : Some kept.Memory ≡ None = sym is ∙ none in cc);
@@ -199,7 +203,7 @@ module _ (c : Collecting) (g : Gathering) (inputs : List LaneInput) (given outle
       left = left;
       whole = λ none. absurd (let e : Some (kept.Gone shard) ≡ None = sym is ∙ none in cc);
       short = λ it. absurd (let e : kept.Gone shard ≡ kept.Memory = same_some _ _ (sym is ∙ it) in cc);
-      gone = λ other it. (let its : shard ≡ other = (let e : kept.Gone shard ≡ kept.Gone other = same_some _ _ (sym is ∙ it) in cc) in subst (IsFoundGone given g) its (gone_shipping shard stops gone ended));
+      gone = λ other it. (let its : shard ≡ other = (let e : kept.Gone shard ≡ kept.Gone other = same_some _ _ (sym is ∙ it) in cc) in subst (IsFoundGone spares given g) its (gone_shipping shard stops gone ended));
       broken = λ thread why it. absurd (let e : kept.Gone shard ≡ kept.Broken thread why = same_some _ _ (sym is ∙ it) in cc);
     }
     stopped_by (kept.Broken thread why) is blamed stops gone ended = record {
@@ -211,17 +215,19 @@ module _ (c : Collecting) (g : Gathering) (inputs : List LaneInput) (given outle
           (let e : kept.Broken thread why ≡ kept.Broken other reason = same_some _ _ (sym is ∙ it) in
           let its : thread ≡ other = (cc) in
           let so : why ≡ reason = (cc) in
-          subst (λ t. IsFoundBroken c given g t reason) its (subst (IsFoundBroken c given g thread) so (broken_at known thread why blamed (stopped_turn thread stops gone ended))));
+          subst (λ t. IsFoundBroken spares c given g t reason) its (subst (IsFoundBroken spares c given g thread) so (broken_at known thread why blamed (stopped_turn thread stops gone ended))));
     }
 
     -- nothing did
-    run_whole : g.fault ≡ None → KeepsUp limits inputs g.stream outlets → ((thread : ℕ) → thread < limits.threads → has_ended thread g.stream ≡ true) → AreEnded (map (λ o. o.feed) outlets) sent g.sent None → HasRunThrough c given g
+    run_whole : g.fault ≡ None → KeepsUp spares limits inputs g.stream outlets → ((thread : ℕ) → thread < limits.threads → has_ended thread g.stream ≡ true) → AreEnded (map (λ o. o.feed) outlets) sent g.sent None → HasRunThrough spares c given g
     run_whole is keeps all ended = record {
       left = left;
       whole = λ none. record {
         collected = collected_all keeps all;
         feeds = (all_ended _ _ _ ended).0 ∙ feeds;
-        shipped = (all_ended _ _ _ ended).1 ∙ keeps.shipped ∙ ap (λ n. dealt n (made_by g.stream)) many;
+        due = keeps.due;
+        are_due = keeps.are_due;
+        shipped = (all_ended _ _ _ ended).1 ∙ keeps.shipped ∙ ap (λ n. dealt n keeps.due) many;
       };
       short = λ it. absurd (let e : None ≡ Some kept.Memory = sym is ∙ it in cc);
       gone = λ shard it. absurd (let e : None ≡ Some (kept.Gone shard) = sym is ∙ it in cc);
@@ -229,26 +235,28 @@ module _ (c : Collecting) (g : Gathering) (inputs : List LaneInput) (given outle
     }
 
     -- a worker was gone at the end
-    run_gone : (first : ℕ) → g.fault ≡ Some (kept.Gone first) → KeepsUp limits inputs g.stream outlets → ((thread : ℕ) → thread < limits.threads → has_ended thread g.stream ≡ true)
-        → AreEnded (map (λ o. o.feed) outlets) sent g.sent (Some first) → HasRunThrough c given g
+    run_gone : (first : ℕ) → g.fault ≡ Some (kept.Gone first) → KeepsUp spares limits inputs g.stream outlets → ((thread : ℕ) → thread < limits.threads → has_ended thread g.stream ≡ true)
+        → AreEnded (map (λ o. o.feed) outlets) sent g.sent (Some first) → HasRunThrough spares c given g
     run_gone first is keeps all ended = record {
       left = left;
       whole = λ none. absurd (let e : Some (kept.Gone first) ≡ None = sym is ∙ none in cc);
       short = λ it. absurd (let e : kept.Gone first ≡ kept.Memory = same_some _ _ (sym is ∙ it) in cc);
       gone = λ shard it.
           (let its : first ≡ shard = (let e : kept.Gone first ≡ kept.Gone shard = same_some _ _ (sym is ∙ it) in cc) in
-          let found : IsFoundGone given g first =
+          let found : IsFoundGone spares given g first =
           inr (record {
             collected = collected_all keeps all;
-            ended = ended_with (made_by g.stream) (Some first) (keeps.shipped ∙ ap (λ n. dealt n (made_by g.stream)) many) ended;
+            due = keeps.due;
+            are_due = keeps.are_due;
+            ended = ended_with keeps.due (Some first) (keeps.shipped ∙ ap (λ n. dealt n keeps.due) many) ended;
           }) in
-          subst (IsFoundGone given g) its found);
+          subst (IsFoundGone spares given g) its found);
       broken = λ thread why it. absurd (let e : kept.Gone first ≡ kept.Broken thread why = same_some _ _ (sym is ∙ it) in cc);
     }
 
-    pub run_through : (gathered : Result (Unit {0}) RunFault) (gone : Option ℕ) → g.fault ≡ first_of gathered gone → OnOk gathered (KeepsUp limits inputs g.stream outlets)
-        → OnOk gathered ((thread : ℕ) → thread < limits.threads → has_ended thread g.stream ≡ true) → IfErr gathered (IsBlamed limits inputs g.stream) → IfErr gathered (StopsWith c.stream g.stream sent)
-        → AreEnded (map (λ o. o.feed) outlets) sent g.sent gone → HasRunThrough c given g
+    pub run_through : (gathered : Result (Unit {0}) RunFault) (gone : Option ℕ) → g.fault ≡ first_of gathered gone → OnOk gathered (KeepsUp spares limits inputs g.stream outlets)
+        → OnOk gathered ((thread : ℕ) → thread < limits.threads → has_ended thread g.stream ≡ true) → IfErr gathered (IsBlamed limits inputs g.stream) → IfErr gathered (StopsWith spares c.stream g.stream sent)
+        → AreEnded (map (λ o. o.feed) outlets) sent g.sent gone → HasRunThrough spares c given g
     run_through (Err fault) gone is keeps all blamed stops ended = stopped_by fault is blamed stops gone ended
     run_through (Ok done) None is keeps all blamed stops ended = run_whole is keeps all ended
     run_through (Ok done) (Some first) is keeps all blamed stops ended = run_gone first is keeps all ended

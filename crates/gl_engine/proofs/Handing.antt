@@ -1,5 +1,5 @@
 -- What lanes hand over, note by note, and what stops a run.
-use Rattle.std.proofs.Common.{◌≡◌, ℕ, ◌+◌, ◌<◌, ◌≤◌, List, [], ◌∷◌, ◌++◌, length, map, set, get_or, sym, ap, ◌∙◌, subst, append_assoc, arith, inl, inr}
+use Rattle.std.proofs.Common.{◌≡◌, ℕ, Bool, ◌+◌, ◌<◌, ◌≤◌, List, [], ◌∷◌, ◌++◌, length, map, set, get_or, sym, ap, ◌∙◌, subst, append_assoc, arith, inl, inr}
 use Rattle.std.specs.Prelude.{slice_get}
 use mathlib.Core.List.{IsPrefix}
 use Rattle.std.proofs.lemmas.Bool.{cases_eq}
@@ -11,10 +11,11 @@ use Rattle.gl_edges.specs.declared.edge.Sample.{Sample}
 use Rattle.gl_lane.specs.Lanes.{Popping}
 use Rattle.gl_shards.specs.Feeds.{Sending}
 use Rattle.gl_world.proofs.Lists.{same_some, get_at, get_set_same, get_set_other}
-use Rattle.gl_engine.specs.bodies.Breaking.{handed, HandOver, HasLagged, HasStopped, IsBlamed, IsGoneAt, IsPullFault, StopsWith}
+use Rattle.gl_engine.specs.bodies.Breaking.{handed, HandOver, HasLagged, IsBlamed, IsGoneAt, IsPullFault, StopsWith}
 use Rattle.gl_engine.specs.Collecting.{as_of, IsTurn}
-use Rattle.gl_engine.specs.bodies.Whole.{AddsEdges}
-use Rattle.gl_engine.specs.Dealing.{dealt, made_by}
+use Rattle.gl_engine.specs.bodies.Sparing.{AddsEdges}
+use Rattle.gl_engine.specs.declared.making.Making.{Making}
+use Rattle.gl_engine.specs.Dealing.{dealt, made_by, AreDue}
 use Rattle.gl_engine.specs.declared.gathered.RunFault.{RunFault}
 use Rattle.gl_engine.specs.declared.gathered.RunFault.TheVariants.{Memory, Gone, Broken}
 use Rattle.gl_engine.specs.declared.lane_input.LaneInput.{LaneInput}
@@ -91,38 +92,51 @@ blamed_gone limits inputs stream made sent (Broken thread why) is = absurd is
 
 -- ---- what was sent
 
--- where pulls go wrong, all was sent that was made before them
-pub stops_pull : (thread : ℕ) (limits : Bounds) (inputs : List LaneInput) (first stream : List Note) (outlets : List Sending) (fault : RunFault) → IsPullFault thread limits inputs stream fault
-    → IsTurn 64 thread first stream → map (λ o. o.sent) outlets ≡ dealt (length outlets) (made_by first) → StopsWith first stream (map (λ o. o.sent) outlets) fault
-stops_pull thread limits inputs first stream outlets fault is turn sent = by fault is
+-- where pulls go wrong, all was sent that was due before them
+pub stops_pull : (thread : ℕ) (limits : Bounds) (inputs : List LaneInput) (spares : Bool) (first stream : List Note) (outlets : List Sending) (fault : RunFault) → IsPullFault thread limits inputs stream fault
+    → IsTurn 64 thread first stream → (due : List (Edge × Sample)) → AreDue spares (made_by first) due → map (λ o. o.sent) outlets ≡ dealt (length outlets) due
+    → StopsWith spares first stream (map (λ o. o.sent) outlets) fault
+stops_pull thread limits inputs spares first stream outlets fault is turn due are_due sent = by fault is
   where
-    lagged : HasLagged first stream (map (λ o. o.sent) outlets) thread
+    lagged : HasLagged spares first stream (map (λ o. o.sent) outlets) thread
     lagged = record {
       before = first;
       later = prefix_same first;
       turn = turn;
-      dealt_are = sent ∙ ap (λ n. dealt n (made_by first)) (sym (length-map outlets (λ (o : Sending). o.sent)));
+      due = due;
+      are_due = are_due;
+      dealt_are = sent ∙ ap (λ n. dealt n due) (sym (length-map outlets (λ (o : Sending). o.sent)));
     }
 
-    by : (fault : RunFault) → IsPullFault thread limits inputs stream fault → StopsWith first stream (map (λ o. o.sent) outlets) fault
+    by : (fault : RunFault) → IsPullFault thread limits inputs stream fault → StopsWith spares first stream (map (λ o. o.sent) outlets) fault
     by Memory is = (thread, lagged)
     by (Gone shard) is = absurd is
-    by (Broken number why) is = subst (HasLagged first stream (map (λ o. o.sent) outlets)) (sym is.0) lagged
+    by (Broken number why) is = subst (HasLagged spares first stream (map (λ o. o.sent) outlets)) (sym is.0) lagged
 
 -- shipping stops at a worker that is gone
-pub stops_gone : (first stream : List Note) (made : List (Edge × Sample)) (sent : List (List (Edge × Sample))) (fault : RunFault) → made ≡ made_by stream → IsGoneAt made sent fault → StopsWith first stream sent fault
-stops_gone first stream made sent Memory same is = absurd is
-stops_gone first stream made sent (Gone shard) same is = subst (λ pairs. HasStopped pairs sent shard) same is
-stops_gone first stream made sent (Broken thread why) same is = absurd is
+pub stops_gone : (spares : Bool) (first stream : List Note) (due : List (Edge × Sample)) (sent : List (List (Edge × Sample))) (fault : RunFault) → AreDue spares (made_by stream) due → IsGoneAt due sent fault
+    → StopsWith spares first stream sent fault
+stops_gone spares first stream due sent Memory are_due is = absurd is
+stops_gone spares first stream due sent (Gone shard) are_due is = record { due = due; are_due = are_due; stopped = is }
+stops_gone spares first stream due sent (Broken thread why) are_due is = absurd is
 
 -- and the run had begun with fewer notes
-lagged_since : (early first stream : List Note) (sent : List (List (Edge × Sample))) (thread : ℕ) → IsPrefix early first → HasLagged first stream sent thread → HasLagged early stream sent thread
-lagged_since early first stream sent thread more is = record { before = is.before; later = prefix_on early first is.before more is.later; turn = is.turn; dealt_are = is.dealt_are }
+lagged_since : (spares : Bool) (early first stream : List Note) (sent : List (List (Edge × Sample))) (thread : ℕ) → IsPrefix early first → HasLagged spares first stream sent thread
+    → HasLagged spares early stream sent thread
+lagged_since spares early first stream sent thread more is = record {
+  before = is.before;
+  later = prefix_on early first is.before more is.later;
+  turn = is.turn;
+  due = is.due;
+  are_due = is.are_due;
+  dealt_are = is.dealt_are;
+}
 
-pub stops_since : (early first stream : List Note) (sent : List (List (Edge × Sample))) → IsPrefix early first → (fault : RunFault) → StopsWith first stream sent fault → StopsWith early stream sent fault
-stops_since early first stream sent more Memory is = (is.0, lagged_since early first stream sent is.0 more is.1)
-stops_since early first stream sent more (Gone shard) is = is
-stops_since early first stream sent more (Broken thread why) is = lagged_since early first stream sent thread more is
+pub stops_since : (spares : Bool) (early first stream : List Note) (sent : List (List (Edge × Sample))) → IsPrefix early first → (fault : RunFault) → StopsWith spares first stream sent fault
+    → StopsWith spares early stream sent fault
+stops_since spares early first stream sent more Memory is = (is.0, lagged_since spares early first stream sent is.0 more is.1)
+stops_since spares early first stream sent more (Gone shard) is = is
+stops_since spares early first stream sent more (Broken thread why) is = lagged_since spares early first stream sent thread more is
 
 -- ---- pulls off one lane
 
@@ -145,6 +159,7 @@ pulled_on one two both thread before between after within a b = record {
 pub pulled_prefix : (most thread : ℕ) (before after : List Note) → IsTurn most thread before after → IsPrefix before after
 pulled_prefix most thread before after is = (map (as_of thread) is.notes, is.joined)
 
--- all edges are shipped or among those made, where none were made before
-pub added_all : (before after : List Note) (made more : List (Edge × Sample)) → made ≡ [] → AddsEdges before made after more → made_by before ++ more ≡ made_by after
-added_all before after made more none adds = adds (made_by before) (ap (λ pairs. made_by before ++ pairs) none ∙ append-nil (made_by before))
+-- all edges due are shipped or among those made, where none were made before
+pub added_all : (before after : List Note) (making more : Making) (due : List (Edge × Sample)) → making.made.items ≡ [] → AreDue making.spares (made_by before) due → AddsEdges before making after more
+    → AreDue making.spares (made_by after) (due ++ more.made.items)
+added_all before after making more due none are adds = adds.due due (subst (AreDue making.spares (made_by before)) (sym (ap (λ pairs. due ++ pairs) none ∙ append-nil due)) are)

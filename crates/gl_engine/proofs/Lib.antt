@@ -2,6 +2,7 @@ pub mod Notes
 pub mod Sides
 pub mod Opening
 pub mod Dealt
+pub mod Sparing
 pub mod Handing
 pub mod Confirming
 pub mod Running

@@ -18,14 +18,14 @@ use Rattle.gl_shards.specs.Shards.{shard_of}
 use Rattle.gl_shards.specs.Tables.{of_shard}
 use Rattle.gl_shards.specs.declared.shard.TheConstants.{MAX_SHARDS}
 use Rattle.gl_world.proofs.Lists.{same_some, get_at, get_set_same}
-use Rattle.gl_engine.specs.Collecting.{Pulling, Side, as_of, break_lane, with_pulled, HasPulled, IsTurn, IsSidePull}
+use Rattle.gl_engine.specs.Collecting.{Pulling, Side, as_of, IsTurn, IsSidePull}
 use Rattle.gl_intake.specs.declared.notes.Refused.{Refused}
 use Rattle.gl_engine.specs.bodies.Breaking.{first_of, HasStopped, IsBlamed, IsBroken, IsKeptFor, IsPullFault, TellsTaken}
-use Rattle.gl_engine.specs.Dealing.{dealt, edges_of_next, made_by}
-use Rattle.gl_engine.specs.Keeping.{BreaksForCause, IsCollector, pulling_of}
+use Rattle.gl_engine.specs.Dealing.{dealt, made_by}
+use Rattle.gl_engine.specs.Keeping.{BreaksForCause, IsCollector, pulling_of, side_at}
 use Rattle.gl_engine.specs.Gathering.{ReachShards}
 use Rattle.gl_engine.specs.bodies.Shipping.{HaveShipped}
-use Rattle.gl_engine.specs.bodies.Whole.{lane_of, AddsEdges, HasMoved, KeepsUp, IsWhole, IsGathered}
+use Rattle.gl_engine.specs.bodies.Whole.{lane_of, HasMoved, KeepsUp, IsWhole, IsGathered}
 use Rattle.std.proofs.lemmas.Simd.{map-map}
 use Rattle.gl_engine.specs.declared.gathered.RunFault.{RunFault}
 use Rattle.gl_engine.specs.declared.gathered.RunFault.TheVariants as kept
@@ -34,52 +34,9 @@ use Rattle.gl_engine.specs.declared.pulled.Pulled.TheVariants.{Empty, Event as A
 use Rattle.gl_engine.specs.declared.pulled.PullFault.{PullFault}
 use Rattle.gl_engine.specs.declared.pulled.PullFault.TheVariants.{Broken, Memory as OutOfMemory}
 use Rattle.gl_engine.specs.declared.lane_input.LaneInput.{LaneInput}
-use Rattle.gl_engine.proofs.Dealt.{dealt_at, dealt_more, made_by_more}
+use Rattle.gl_engine.proofs.Dealt.{dealt_at, dealt_more}
 use Rattle.gl_engine.proofs.Handing.{prefix_behind}
 use Rattle.gl_engine.proofs.Sides.{collector_after, lane_same}
-
--- the side where the edges made are all that its notes make
-abbrev pub side_whole : Side → Side
-side_whole side = record { input = side.input; stream = side.stream; made = made_by side.stream }
-
-module _ (limits : Bounds) (thread : ℕ) (old new : Side) where
-  pulled_whole : (answer : Pulled) → HasPulled limits thread old answer new → HasPulled limits thread (side_whole old) answer (side_whole new)
-  pulled_whole answer has = record {
-    running = has.running;
-    note = has.note;
-    next = has.next;
-    answer_is = has.answer_is;
-    moved = ap side_whole has.moved
-        ∙ ap (λ pairs. let side : Side = record { input = (with_pulled thread old has.note).input; stream = (with_pulled thread old has.note).stream; made = pairs } in side) (made_by_more old.stream (as_of thread has.note));
-  }
-
-  -- the same pull, where all edges are among those made
-  pub pull_whole : (answer : Result Pulled PullFault) → IsSidePull limits thread old answer new → IsSidePull limits thread (side_whole old) answer (side_whole new)
-  pull_whole (Ok Empty) tells = (tells.0, ap side_whole tells.1)
-  pull_whole (Ok (Answered place)) tells = pulled_whole (Answered place) tells
-  pull_whole (Ok (Closing count)) tells = pulled_whole (Closing count) tells
-  pull_whole (Err (Broken why)) (inl same) = inl (same.0, ap side_whole same.1)
-  pull_whole (Err (Broken why)) (inr has) = inr (record { running = has.running; note = has.note; refused = has.refused; moved = ap side_whole has.moved })
-  pull_whole (Err OutOfMemory) tells = (tells.0, ap side_whole tells.1)
-
-  pulled_edges : (answer : Pulled) → HasPulled limits thread old answer new → AddsEdges old.stream old.made new.stream new.made
-  pulled_edges answer has shipped are =
-      subst (λ (s : Side). shipped ++ s.made ≡ made_by s.stream) (sym has.moved)
-      (sym (append_assoc shipped old.made _) ∙ ap (λ pairs. pairs ++ edges_of_next old.stream (as_of thread has.note)) are ∙ sym (made_by_more old.stream (as_of thread has.note)))
-
-  same_edges : (side : Side) → new ≡ side → side.stream ≡ old.stream → side.made ≡ old.made → AddsEdges old.stream old.made new.stream new.made
-  same_edges side moved stream made shipped are =
-      subst (λ (s : Side). shipped ++ s.made ≡ made_by s.stream) (sym moved)
-      (ap (λ pairs. shipped ++ pairs) made ∙ are ∙ ap made_by (sym stream))
-
-  -- its edges were added to those made
-  pub pull_edges : (answer : Result Pulled PullFault) → IsSidePull limits thread old answer new → AddsEdges old.stream old.made new.stream new.made
-  pull_edges (Ok Empty) tells = same_edges old tells.1 refl refl
-  pull_edges (Ok (Answered place)) tells = pulled_edges (Answered place) tells
-  pull_edges (Ok (Closing count)) tells = pulled_edges (Closing count) tells
-  pull_edges (Err (Broken why)) (inl same) = same_edges old same.1 refl refl
-  pull_edges (Err (Broken why)) (inr has) = same_edges (break_lane old why) has.moved refl refl
-  pull_edges (Err OutOfMemory) tells = same_edges old tells.1 refl refl
 
 -- a lane that a pull found broken is so
 broken_by : (limits : Bounds) (thread : ℕ) (old new : Side) (why : Refused) → IsSidePull limits thread old (Err (Broken why)) new → new.input.broken ≡ Some why
@@ -87,20 +44,14 @@ broken_by limits thread old new why (inl same) = ap (λ (s : Side). s.input.brok
 broken_by limits thread old new why (inr has) = ap (λ (s : Side). s.input.broken) has.moved
 
 module _ (limits : Bounds) (inputs : List LaneInput) (stream : List Note) (is : IsCollector limits inputs stream (made_by stream) limits)
-    (thread : ℕ) (was new : LaneInput) (within : thread < length inputs) (here : was ≡ get_or inputs thread was) (later : List Note) (made more : List (Edge × Sample))
+    (thread : ℕ) (was new : LaneInput) (within : thread < length inputs) (here : was ≡ get_or inputs thread was) (later : List Note)
     (cause : BreaksForCause limits thread later new) (answer : Result Pulled PullFault)
-    (tells : IsSidePull limits thread (record { input = pulling_of was; stream = stream; made = made }) answer (record { input = pulling_of new; stream = later; made = more })) where
-  told_whole : IsSidePull limits thread (record { input = pulling_of was; stream = stream; made = made_by stream }) answer (record { input = pulling_of new; stream = later; made = made_by later })
-  told_whole = pull_whole limits thread (record { input = pulling_of was; stream = stream; made = made }) (record { input = pulling_of new; stream = later; made = more }) answer tells
-
-  pub edges_later : AddsEdges stream made later more
-  edges_later = pull_edges limits thread (record { input = pulling_of was; stream = stream; made = made }) (record { input = pulling_of new; stream = later; made = more }) answer tells
-
+    (tells : IsSidePull limits thread (side_at was stream (made_by stream)) answer (side_at new later (made_by later))) where
   pub kept_later : IsCollector limits (set inputs thread new) later (made_by later) limits
-  kept_later = collector_after limits inputs stream (made_by stream) limits is thread was new within here later (made_by later) cause answer told_whole
+  kept_later = collector_after limits inputs stream (made_by stream) limits is thread was new within here later (made_by later) cause answer tells
 
   pub lanes_later : map lane_of (set inputs thread new) ≡ map lane_of inputs
-  lanes_later = map-set_same lane_of inputs thread new was (lane_same limits inputs stream (made_by stream) limits is thread was new within here later (made_by later) answer told_whole ∙ ap lane_of here)
+  lanes_later = map-set_same lane_of inputs thread new was (lane_same limits inputs stream (made_by stream) limits is thread was new within here later (made_by later) answer tells ∙ ap lane_of here)
 
   pulled_same : later ≡ stream → IsTurn 1 thread stream later
   pulled_same same = record { notes = []; few = omega arith; joined = append-nil stream ∙ sym same }
@@ -108,7 +59,7 @@ module _ (limits : Bounds) (inputs : List LaneInput) (stream : List Note) (is : 
   pulled_one : (note : Note) → later ≡ stream ++ as_of thread note ∷ [] → IsTurn 1 thread stream later
   pulled_one note grown = record { notes = note ∷ []; few = omega arith; joined = sym grown }
 
-  grown_by : (answer : Result Pulled PullFault) → IsSidePull limits thread (record { input = pulling_of was; stream = stream; made = made }) answer (record { input = pulling_of new; stream = later; made = more }) → IsTurn 1 thread stream later
+  grown_by : (answer : Result Pulled PullFault) → IsSidePull limits thread (side_at was stream (made_by stream)) answer (side_at new later (made_by later)) → IsTurn 1 thread stream later
   grown_by (Ok Empty) t = pulled_same (ap (λ (s : Side). s.stream) t.1)
   grown_by (Ok (Answered place)) t = pulled_one t.note (ap (λ (s : Side). s.stream) t.moved)
   grown_by (Ok (Closing count)) t = pulled_one t.note (ap (λ (s : Side). s.stream) t.moved)
@@ -122,7 +73,7 @@ module _ (limits : Bounds) (inputs : List LaneInput) (stream : List Note) (is : 
   longer : (note : Note) → later ≡ stream ++ note ∷ [] → length stream < length later
   longer note grown = omega (arith, ap length grown, length-append stream (note ∷ []))
 
-  moved_by_answer : (taken : Bool) (answer : Result Pulled PullFault) → IsSidePull limits thread (record { input = pulling_of was; stream = stream; made = made }) answer (record { input = pulling_of new; stream = later; made = more })
+  moved_by_answer : (taken : Bool) (answer : Result Pulled PullFault) → IsSidePull limits thread (side_at was stream (made_by stream)) answer (side_at new later (made_by later))
       → TellsTaken answer taken → HasMoved stream later taken
   moved_by_answer taken (Ok Empty) t told = subst (HasMoved stream later) (sym told) (ap (λ (s : Side). s.stream) t.1)
   moved_by_answer taken (Ok (Answered place)) t told = subst (HasMoved stream later) (sym told) (longer (as_of thread t.note) (ap (λ (s : Side). s.stream) t.moved))
@@ -138,7 +89,7 @@ module _ (limits : Bounds) (inputs : List LaneInput) (stream : List Note) (is : 
   blamed_now kept.Memory told = tt
   blamed_now (kept.Gone shard) told = absurd told
   blamed_now (kept.Broken number why) told =
-      let broken : new.broken ≡ Some why = broken_by limits thread _ _ why (subst (λ a. IsSidePull limits thread (record { input = pulling_of was; stream = stream; made = made }) a (record { input = pulling_of new; stream = later; made = more })) told.1 tells) in
+      let broken : new.broken ≡ Some why = broken_by limits thread _ _ why (subst (λ a. IsSidePull limits thread (side_at was stream (made_by stream)) a (side_at new later (made_by later))) told.1 tells) in
       let stuck = cause why broken in
       let there : slice_get (set inputs thread new) thread ≡ Some new = get_set_same inputs thread new within in (
         told.0,
@@ -243,15 +194,17 @@ when_ok (Err e) P ok told = absurd (false≢true ok)
 -- ---- what was gathered
 
 -- a run that kept up to the end has gathered all
-pub all_whole : (limits : Bounds) (inputs : List LaneInput) (stream : List Note) (outlets : List Sending) (sent : List AllSent) → KeepsUp limits inputs stream outlets
+pub all_whole : (limits : Bounds) (inputs : List LaneInput) (stream : List Note) (outlets : List Sending) (sent : List AllSent) (spares : Bool) → KeepsUp spares limits inputs stream outlets
     → ((thread : ℕ) → thread < limits.threads → has_ended thread stream ≡ true) → 1 ≤ length outlets → map (λ s. s.sent) sent ≡ map (λ o. o.sent) outlets → IsWhole limits inputs stream sent
-all_whole limits inputs stream outlets sent keeps ended some are =
+all_whole limits inputs stream outlets sent spares keeps ended some are =
     let count : length sent ≡ length outlets = as_long (λ (s : AllSent). s.sent) (λ (o : Sending). o.sent) sent outlets are in
     record {
       collected = record { told = keeps.collector.inputs_are.told; in_order = keeps.collector.in_order; ended = ended };
       made_are = keeps.collector.made_are;
       some = omega (arith, some, count);
-      shipped = are ∙ keeps.shipped ∙ ap (λ n. dealt n (made_by stream)) (sym count);
+      due = keeps.due;
+      table = keeps.are_due.table;
+      shipped = are ∙ keeps.shipped ∙ ap (λ n. dealt n keeps.due) (sym count);
     }
 
 -- what a collector's inputs show of their lanes
@@ -266,17 +219,17 @@ blamed_first limits inputs stream (Ok done) None blamed = tt
 blamed_first limits inputs stream (Ok done) (Some shard) blamed = tt
 
 -- what a run keeps at its end, whatever went wrong
-pub gathered_all : (limits collecting : Bounds) → collecting ≡ limits → (before inputs : List LaneInput) → length before ≡ limits.threads → map lane_of inputs ≡ map lane_of before → (stream : List Note) (given outlets : List Sending) (sent : List AllSent)
-    → 1 ≤ length given → map (λ o. o.feed) outlets ≡ map (λ o. o.feed) given → (gathered : Result (Unit {0}) RunFault) (gone : Option ℕ) → OnOk gathered (KeepsUp collecting inputs stream outlets)
+pub gathered_all : (limits collecting : Bounds) → collecting ≡ limits → (before inputs : List LaneInput) → length before ≡ limits.threads → map lane_of inputs ≡ map lane_of before → (stream : List Note) (given outlets : List Sending) (sent : List AllSent) (spares : Bool)
+    → 1 ≤ length given → map (λ o. o.feed) outlets ≡ map (λ o. o.feed) given → (gathered : Result (Unit {0}) RunFault) (gone : Option ℕ) → OnOk gathered (KeepsUp spares collecting inputs stream outlets)
     → OnOk gathered ((thread : ℕ) → thread < collecting.threads → has_ended thread stream ≡ true) → (gone ≡ None → map (λ s. s.sent) sent ≡ map (λ o. o.sent) outlets)
     → IfErr gathered (IsBlamed collecting inputs stream) → (fault : Option RunFault) → fault ≡ first_of gathered gone → (fault ≡ None → IsOk gathered × (gone ≡ None)) → IsGathered limits inputs stream collecting sent fault
-gathered_all limits collecting same before inputs count lanes stream given outlets sent some feeds gathered gone keeps all kept blamed fault first none = record {
+gathered_all limits collecting same before inputs count lanes stream given outlets sent spares some feeds gathered gone keeps all kept blamed fault first none = record {
   count = as_long lane_of lane_of inputs before lanes ∙ count;
   same_limits = same;
   whole = λ is.
       (let (ok, kept_ok) = none is in
       let many : length outlets ≡ length given = as_long (λ (o : Sending). o.feed) (λ (o : Sending). o.feed) outlets given feeds in
       subst (λ b. IsWhole b inputs stream sent) same
-      (all_whole collecting inputs stream outlets sent (when_ok gathered _ ok keeps) (when_ok gathered _ ok all) (omega (arith, many, some)) (kept kept_ok)));
+      (all_whole collecting inputs stream outlets sent spares (when_ok gathered _ ok keeps) (when_ok gathered _ ok all) (omega (arith, many, some)) (kept kept_ok)));
   blamed = subst (λ b. IfSome fault (IsBlamed b inputs stream)) same (subst (λ f. IfSome f (IsBlamed collecting inputs stream)) (sym first) (blamed_first collecting inputs stream gathered gone blamed));
 }

@@ -4,7 +4,7 @@ use Rattle.std.specs.Prelude.{slice_get, OnOk, OnErr}
 use Rattle.std.proofs.Math.Seq.{take-append_seam, map-set_same}
 use Rattle.std.proofs.lemmas.Bool.{cases_eq}
 use Rattle.std.specs.Option.{is_some, option_map}
-use Rattle.std.proofs.lemmas.List.{append-nil, length-set, map-append, map-set, get_or-map}
+use Rattle.std.proofs.lemmas.List.{length-set, map-append, map-set, get_or-map}
 use Rattle.std.proofs.lemmas.Option.{slice_get-map}
 use Rattle.gl_event.specs.Bounds.{Bounds}
 use Rattle.gl_event.specs.Events.{wanted_lock}
@@ -15,7 +15,6 @@ use Rattle.gl_event.specs.declared.notes.Body.TheVariants.{Happened, Ended}
 use Rattle.gl_event.proofs.Depths.{slice_get_last}
 use Rattle.gl_edges.specs.declared.edge.Edge.{Edge}
 use Rattle.gl_edges.specs.declared.edge.Sample.{Sample}
-use Rattle.gl_edges.specs.Edges.{edges_after}
 use Rattle.gl_edges.proofs.Remembering.{no_edges}
 use Rattle.gl_edges.proofs.Steps.{newest}
 use Rattle.gl_intake.specs.Stream.{accepted_as, events_of, note_refusal, AreInOrder, IsNext}
@@ -105,12 +104,6 @@ module _ (limits : Bounds) (inputs : List LaneInput) (stream : List Note) (are :
 
 -- ---- one pull
 
--- the edges that an event makes as the next one, added to those made
-pub due_added : {X E : Type 0} (thread : ℕ) (es : List Event) (e : Event) (made more : List (Edge × Sample)) (result : Result X E) → OnOk result (more ≡ made ++ edges_after thread es e)
-    → OnOk result (more ≡ made ++ edges_due thread (es ++ e ∷ []) (length es) (Happened e))
-due_added thread es e made more (Ok done) added = added ∙ ap (λ pairs. made ++ pairs) (sym (newest thread es e))
-due_added thread es e made more (Err why) added = tt
-
 -- what isn't there, by the test
 pub is_not_there : {X : Type 0} (o : Option X) (b : Bool) → is_some o ≡ not b → b ≡ true → o ≡ None
 is_not_there None b test on = refl
@@ -121,10 +114,9 @@ pub due_of_none : (thread : ℕ) (es : List Event) (e : Event) → wanted_lock e
 due_of_none thread es e none = newest thread es e ∙ no_edges thread es e none
 
 -- nor does what tells nothing of edges, once it was accepted
-pub grown_by_none : (limits : Bounds) (stream : List Note) (note : Note) (made : List (Edge × Sample)) → note_refusal limits stream note ≡ None
-    → edges_due note.thread (with_body (events_of note.thread stream) note.body) (length (events_of note.thread stream)) note.body ≡ [] → made ≡ made ++ edges_of_next stream note
-grown_by_none limits stream note made allowed none =
-    sym (append-nil made) ∙ ap (λ pairs. made ++ pairs) (sym none ∙ due_is limits stream note (next_of_none limits stream note allowed))
+pub none_due : (limits : Bounds) (stream : List Note) (note : Note) → note_refusal limits stream note ≡ None
+    → edges_due note.thread (with_body (events_of note.thread stream) note.body) (length (events_of note.thread stream)) note.body ≡ [] → edges_of_next stream note ≡ []
+none_due limits stream note allowed none = sym (due_is limits stream note (next_of_none limits stream note allowed)) ∙ none
 
 never_empty : (place : ℕ) (body : Body) → Empty ≢ pulled_of (accepted_as place body)
 never_empty place (Happened e) is = cc

@@ -13,7 +13,7 @@ use Rattle.gl_shards.specs.Feeds.{AllSent, FeedId, Sending}
 use Rattle.gl_shards.specs.Shards.{shard_of}
 use Rattle.gl_shards.specs.declared.shard.TheConstants.{MAX_SHARDS}
 use Rattle.gl_engine.specs.Collecting.{Collecting, lanes_of, IsTurn}
-use Rattle.gl_engine.specs.Dealing.{dealt, made_by}
+use Rattle.gl_engine.specs.Dealing.{dealt, made_by, AreDue}
 use Rattle.gl_engine.specs.Receipts.{AreOfRecorders}
 use Rattle.gl_engine.specs.Recording.{Closed}
 use Rattle.gl_engine.specs.declared.gathered.RunFault.{RunFault}
@@ -79,57 +79,68 @@ pub record HasCollectedAll (g : Gathering) : Type 0 where
   pub in_order : AreInOrder g.limits g.stream
   pub all_ended : (thread : ℕ) → thread < g.limits.threads → has_ended thread g.stream ≡ true
 
--- all was collected, and shipped: to each feed those of the edges made that are its shard's. No worker was gone
-pub record HasShippedAll (outlets : List Sending) (g : Gathering) : Type 0 where
+-- all was collected, and shipped: to each feed those of the edges due that are its shard's. No worker was gone
+pub record HasShippedAll (spares : Bool) (outlets : List Sending) (g : Gathering) : Type 0 where
   pub collected : HasCollectedAll g
   pub feeds : map (λ s. s.feed) g.sent ≡ map (λ o. o.feed) outlets
-  pub shipped : map (λ s. s.sent) g.sent ≡ dealt (length outlets) (made_by g.stream)
+  pub due : List (Edge × Sample)
+  pub are_due : AreDue spares (made_by g.stream) due
+  pub shipped : map (λ s. s.sent) g.sent ≡ dealt (length outlets) due
 
 -- ---- a worker that is gone
 
--- of the edges made these were shipped, and the next one could not be: it is this shard's
-pub record IsStoppedAt (shards : ℕ) (made shipped : List (Edge × Sample)) (shard : ℕ) : Type 0 where
+-- of the edges due these were shipped, and the next one could not be: it is this shard's
+pub record IsStoppedAt (shards : ℕ) (due shipped : List (Edge × Sample)) (shard : ℕ) : Type 0 where
   pub next : Edge × Sample
   pub rest : List (Edge × Sample)
-  pub parts : made ≡ shipped ++ next ∷ rest
+  pub parts : due ≡ shipped ++ next ∷ rest
   pub whose : shard ≡ shard_of next.0 shards
 
--- the shard's worker was gone when an edge was to be shipped to it: the first of the edges made that wasn't. Then the feeds were ended
-pub record IsGoneShipping (outlets : List Sending) (g : Gathering) (shard : ℕ) : Type 0 where
+-- the shard's worker was gone when an edge was to be shipped to it: the first of the edges due that wasn't. Then the feeds were ended
+pub record IsGoneShipping (spares : Bool) (outlets : List Sending) (g : Gathering)
+    (shard : ℕ) : Type 0 where
+  pub due : List (Edge × Sample)
+  pub are_due : AreDue spares (made_by g.stream) due
   pub shipped : List (Edge × Sample)
-  pub stopped : IsStoppedAt (length outlets) (made_by g.stream) shipped shard
+  pub stopped : IsStoppedAt (length outlets) due shipped shard
   pub gone : Option ℕ
   pub ended : AreEndedAfter outlets shipped g gone
 
 -- all was collected and shipped, and the shard's worker was the first that was gone when its feed was to be ended
-pub record IsGoneEnding (outlets : List Sending) (g : Gathering) (shard : ℕ) : Type 0 where
+pub record IsGoneEnding (spares : Bool) (outlets : List Sending) (g : Gathering)
+    (shard : ℕ) : Type 0 where
   pub collected : HasCollectedAll g
-  pub ended : AreEndedAfter outlets (made_by g.stream) g (Some shard)
+  pub due : List (Edge × Sample)
+  pub are_due : AreDue spares (made_by g.stream) due
+  pub ended : AreEndedAfter outlets due g (Some shard)
 
 -- the run through these outlets found the shard's worker gone, at the edge that it could not ship, or else at the end of the feed
-abbrev pub IsFoundGone : List Sending → Gathering → ℕ → Type 0
-IsFoundGone outlets g shard = IsGoneShipping outlets g shard ⊎ IsGoneEnding outlets g shard
+abbrev pub IsFoundGone : Bool → List Sending → Gathering → ℕ → Type 0
+IsFoundGone spares outlets g shard =
+    IsGoneShipping spares outlets g shard ⊎ IsGoneEnding spares outlets g shard
 
 -- ---- a turn that went wrong
 
--- the run stopped in a turn of the thread: the edges of all notes before the turn were shipped, and none of the notes that the turn had pulled,
--- 64 at most. Then the feeds were ended. The turn came after all pulls before the run
-pub record IsStoppedInTurn (c : Collecting) (outlets : List Sending) (g : Gathering) (thread : ℕ)
-    : Type 0 where
+-- the run stopped in a turn of the thread: the edges of all notes before the turn that are due were shipped, and none of the notes that the turn
+-- had pulled, 64 at most. Then the feeds were ended. The turn came after all pulls before the run
+pub record IsStoppedInTurn (spares : Bool) (c : Collecting) (outlets : List Sending)
+    (g : Gathering) (thread : ℕ) : Type 0 where
   pub before : List Note
   pub later : IsPrefix c.stream before
   pub turn : IsTurn 64 thread before g.stream
+  pub due : List (Edge × Sample)
+  pub are_due : AreDue spares (made_by before) due
   pub gone : Option ℕ
-  pub ended : AreEndedAfter outlets (made_by before) g gone
+  pub ended : AreEndedAfter outlets due g gone
 
 -- after all that was collected came a note of this known thread that may not come next, for this reason, in a turn of the thread
-pub record IsFoundBroken (c : Collecting) (outlets : List Sending) (g : Gathering) (thread : ℕ)
-    (why : Refused) : Type 0 where
+pub record IsFoundBroken (spares : Bool) (c : Collecting) (outlets : List Sending) (g : Gathering)
+    (thread : ℕ) (why : Refused) : Type 0 where
   pub known : thread < g.limits.threads
   pub note : Note
   pub whose : note.thread ≡ thread
   pub refused : IsRefusal g.limits g.stream note why
-  pub stopped : IsStoppedInTurn c outlets g thread
+  pub stopped : IsStoppedInTurn spares c outlets g thread
 
 -- the run could not begin: nothing was collected, and no feed is kept
 pub record HasNotBegun (c : Collecting) (g : Gathering) : Type 0 where
@@ -137,18 +148,19 @@ pub record HasNotBegun (c : Collecting) (g : Gathering) : Type 0 where
   pub none_kept : g.sent ≡ []
 
 -- there was no memory for the run to begin, or for a turn of some thread
-abbrev pub IsFoundShort : Collecting → List Sending → Gathering → Type 0
-IsFoundShort c outlets g =
-    HasNotBegun c g ⊎ ((thread : ℕ) × IsStoppedInTurn c outlets g thread)
+abbrev pub IsFoundShort : Bool → Collecting → List Sending → Gathering → Type 0
+IsFoundShort spares c outlets g =
+    HasNotBegun c g ⊎ ((thread : ℕ) × IsStoppedInTurn spares c outlets g thread)
 
 -- ---- how a run went
 
--- the collector has run through these outlets and left this: all was collected and shipped, or it is told what went wrong first, and what was
--- collected and shipped until then
-pub record HasRunThrough (c : Collecting) (outlets : List Sending) (g : Gathering) : Type 0 where
+-- the collector has run through these outlets, and has shipped all edges made or spared repeats, and left this: all was collected and shipped, or
+-- it is told what went wrong first, and what was collected and shipped until then
+pub record HasRunThrough (spares : Bool) (c : Collecting) (outlets : List Sending)
+    (g : Gathering) : Type 0 where
   pub left : IsLeftBy c g
-  pub whole : g.fault ≡ None → HasShippedAll outlets g
-  pub short : g.fault ≡ Some kept.Memory → IsFoundShort c outlets g
-  pub gone : (shard : ℕ) → g.fault ≡ Some (kept.Gone shard) → IsFoundGone outlets g shard
+  pub whole : g.fault ≡ None → HasShippedAll spares outlets g
+  pub short : g.fault ≡ Some kept.Memory → IsFoundShort spares c outlets g
+  pub gone : (shard : ℕ) → g.fault ≡ Some (kept.Gone shard) → IsFoundGone spares outlets g shard
   pub broken : (thread : ℕ) (why : Refused) → g.fault ≡ Some (kept.Broken thread why)
-      → IsFoundBroken c outlets g thread why
+      → IsFoundBroken spares c outlets g thread why

@@ -3,4 +3,5 @@ pub mod Breaking
 pub mod Fronts
 pub mod Opening
 pub mod Shipping
+pub mod Sparing
 pub mod Whole

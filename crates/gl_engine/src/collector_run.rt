@@ -1,11 +1,12 @@
 //! The run of a collector: it collects all, ships all edges, and ends the feeds.
-ghost use Rattle.std.specs.Prelude.{◌≡◌, ◌<◌, ◌≤◌, ◌+◌, [], ◌∷◌, ◌++◌, None, Some, List, map, length, IsOk};
+ghost use Rattle.std.specs.Prelude.{◌≡◌, ◌<◌, ◌≤◌, ◌+◌, [], ◌∷◌, ◌++◌, true, false, None, Some, List, map, length, IsOk};
 ghost use Rattle.std.specs.Vec.{vec_len, vec_capacity};
 ghost use Rattle.gl_edges.specs.declared.edge.Edge.{Edge};
 ghost use Rattle.gl_edges.specs.declared.edge.Sample.{Sample};
 ghost use Rattle.gl_shards.specs.Feeds.{FeedId};
 ghost use Rattle.gl_shards.specs.declared.shard.TheConstants.{MAX_SHARDS};
 ghost use Rattle.gl_engine.specs.bodies.Breaking.{first_of};
+ghost use Rattle.gl_engine.specs.bodies.Sparing.{IsMadeOf};
 ghost use Rattle.gl_engine.specs.Gathering.{AreEnded, AreUnused, HasNotBegun, HasRunThrough, IsLeftBy};
 ghost use Rattle.gl_engine.specs.declared.gathered.RunFault.TheVariants as kept;
 
@@ -13,9 +14,9 @@ use crate::collector::Collector;
 use crate::discarding::discard_all;
 use crate::gathered::{Gathered, RunFault};
 use crate::made_before::made_by_notes;
+use crate::making::Making;
 use crate::preallocated::keep;
 use crate::pull_and_ship::collect_all;
-use gl_edges::{Edge, Sample};
 use gl_shards::{Gone, Outlet, Sent};
 use std::sync::Wait;
 
@@ -116,13 +117,34 @@ impl Collector {
     /// more in the notes, which takes as long as those pulls did.
     pub fn run<R: Wait>(self, rt: &R, outlets: Vec<Outlet>) -> Gathered
         requires unused { AreUnused outlets.items }
-        ensures { HasRunThrough self outlets.items result }
+        ensures { HasRunThrough false self outlets.items result }
+    {
+        self.run_by(rt, outlets, false)
+    }
+
+    /// The same, but that repeats are spared: where a thread makes an acquire once more, of the same lock, with
+    /// the same locks held, in the same modes and segments, its edges were shipped already, with earlier
+    /// samples, so they are neither made nor shipped again, as far as that is known. The workers' tables are
+    /// those of all edges. It takes less time the more often a program runs the same code, and memory for
+    /// each thread's acquires: 600 bytes, and 64 for each lock inside others, no more than two of these for
+    /// each edge that was made, and some 1,000.
+    pub fn run_without_repeats<R: Wait>(self, rt: &R, outlets: Vec<Outlet>) -> Gathered
+        requires unused { AreUnused outlets.items }
+        ensures { HasRunThrough true self outlets.items result }
+    {
+        self.run_by(rt, outlets, true)
+    }
+
+    // The run, with repeats spared or not.
+    fn run_by<R: Wait>(self, rt: &R, outlets: Vec<Outlet>, spares: bool) -> Gathered
+        requires unused { AreUnused outlets.items }
+        ensures { HasRunThrough spares self outlets.items result }
     {
         let Ok(sent) = Vec::with_capacity(self.alloc, outlets.len()) else {
             return self.run_unkept(rt, outlets);
         };
-        match made_by_notes(self.alloc, &self.limits, self.intake.stream()) {
-            Ok(made) => self.run_into(rt, outlets, sent, made),
+        match made_by_notes(self.alloc, &self.limits, spares, self.intake.stream()) {
+            Ok(making) => self.run_into(rt, outlets, sent, making),
             Err(_) => self.run_unkept(rt, outlets),
         }
     }
@@ -133,13 +155,13 @@ impl Collector {
         rt: &R,
         outlets: Vec<Outlet>,
         sent: Vec<Sent>,
-        made: Vec<(Edge, Sample)>,
+        making: Making,
     ) -> Gathered
         requires unused { AreUnused outlets.items }
         requires empty { sent.items ≡ [] }
         requires room { vec_len sent + length outlets.items ≤ vec_capacity sent }
-        requires made { made.items ≡ self.made }
-        ensures { HasRunThrough self outlets.items result }
+        requires made { IsMadeOf self.stream making }
+        ensures { HasRunThrough making.spares self outlets.items result }
     {
         let Collector {
             alloc,
@@ -156,7 +178,7 @@ impl Collector {
             threads,
             &mut inputs,
             &mut intake,
-            made,
+            making,
             &mut outlets,
         );
         let gone = end_all(rt, outlets, &mut sent);

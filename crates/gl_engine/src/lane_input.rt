@@ -5,6 +5,8 @@ ghost use Rattle.gl_event.specs.Bounds.{Bounds};
 ghost use Rattle.gl_event.specs.States.{StandsAfter};
 ghost use Rattle.gl_event.specs.declared.events.Event.{Event};
 ghost use Rattle.gl_event.specs.declared.notes.Note.{Note};
+ghost use Rattle.gl_edges.specs.declared.edge.Edge.{Edge};
+ghost use Rattle.gl_edges.specs.declared.edge.Sample.{Sample};
 ghost use Rattle.gl_intake.specs.Stream.{HasOffered, IsRefusedFor};
 ghost use Rattle.gl_world.specs.Keeping.{with_body};
 ghost use Rattle.gl_world.specs.Machine.{edges_due};
@@ -12,9 +14,10 @@ ghost use Rattle.gl_engine.specs.Collecting.{as_of, pulled_of, IsSidePull};
 ghost use Rattle.gl_engine.specs.Dealing.{edges_of_next, made_by};
 ghost use Rattle.gl_engine.specs.Keeping.{side_at, BreaksForCause};
 ghost use Rattle.gl_engine.specs.bodies.Fronts.{IsFront};
+ghost use Rattle.gl_engine.specs.bodies.Sparing.{AddsEdges, HasAdded, NotesMade};
 
+use crate::making::Making;
 use crate::pulled::{PullFault, Pulled};
-use gl_edges::{Edge, Sample, add_next_edges};
 use gl_event::{Body, Event, Memory, Note, ThreadId, ThreadState};
 use gl_intake::{Accepted, Intake, Refused};
 use gl_lane::LaneOut;
@@ -44,21 +47,21 @@ fn pulled(accepted: &Accepted) -> Pulled
 }
 
 // Adds to those made the edges of the body, whose note is the next one of the thread of which this is known,
-// ascending. Where there is no memory none is added.
+// ascending, but for repeats, where these are spared. Where there is no memory none is added.
 fn add_due(
     alloc: Global,
     thread: ThreadId,
     state: &ThreadState,
     body: &Body,
-    made: &mut Vec<(Edge, Sample)>,
+    making: &mut Making,
 ) -> Result<(), Memory>
     ensures added { (es : List Event) → StandsAfter es state.now
-        → OnOk result (made.new.items ≡ made.old.items
-        ++ edges_due thread (with_body es body.now) (length es) body.now) }
-    ensures unchanged { OnErr result (made.new.items ≡ made.old.items) }
+        → OnOk result (HasAdded thread
+        (edges_due thread (with_body es body.now) (length es) body.now) making.old making.new) }
+    ensures none { OnErr result (HasAdded thread [] making.old making.new) }
 {
     match *body {
-        Body::Happened(event) => add_next_edges(alloc, thread, state, &event, made),
+        Body::Happened(event) => making.add(alloc, thread, state, &event),
         Body::Ended { .. } => Ok(()),
     }
 }
@@ -87,36 +90,35 @@ fn refusal_without_memory(intake: &mut Intake, note: &Note) -> Refused
 }
 
 /// Accepts the note, where it may come next, and adds its edges to those made, which otherwise stay as they
-/// were.
+/// were; but for repeats, where these are spared.
 ///
 /// The edges are found before the note is offered, so that the intake looks through the locks that the thread
 /// holds once. A note that makes none is offered at once.
 pub fn accept_with_edges(
     alloc: Global,
     intake: &mut Intake,
-    made: &mut Vec<(Edge, Sample)>,
+    making: &mut Making,
     note: &Note,
 ) -> Result<Accepted, Refused>
     requires known { note.now.thread < intake.old.limits.threads }
+    requires notes { NotesMade intake.old.stream making.old }
     ensures offered { HasOffered intake.old.limits intake.old.stream intake.new.stream note.now
         result }
-    ensures grown { OnOk result
-        (made.new.items ≡ made.old.items ++ edges_of_next intake.old.stream note.now) }
-    ensures unchanged { OnErr result (made.new.items ≡ made.old.items) }
+    ensures added { AddsEdges intake.old.stream making.old intake.new.stream making.new }
     ensures limits { intake.new.limits ≡ intake.old.limits }
 {
     if makes_none(&note.body) {
         return intake.offer(*note);
     }
-    let before = made.len();
+    let before = making.made.len();
     let state = intake.state(note.thread);
-    let Ok(()) = add_due(alloc, note.thread, state, &note.body, made) else {
+    let Ok(()) = add_due(alloc, note.thread, state, &note.body, making) else {
         return Err(refusal_without_memory(intake, note));
     };
     match intake.offer(*note) {
         Ok(accepted) => Ok(accepted),
         Err(refused) => {
-            made.truncate(before);
+            making.take_back(note.thread, before);
             Err(refused)
         }
     }
@@ -154,18 +156,20 @@ impl LaneInput {
         self.take_front(&note, offered)
     }
 
-    /// The same, and adds the note's edges to those made.
+    /// The same, and adds the note's edges to those made, but for repeats, where these are spared.
     pub fn pull_with_edges(
         &mut self,
         alloc: Global,
         thread: ThreadId,
         intake: &mut Intake,
-        made: &mut Vec<(Edge, Sample)>,
+        making: &mut Making,
     ) -> Result<Pulled, PullFault>
         requires known { thread < intake.old.limits.threads }
+        requires notes { NotesMade intake.old.stream making.old }
         ensures pull { IsSidePull intake.old.limits thread
-            (side_at self.old intake.old.stream made.old.items) result
-            (side_at self.new intake.new.stream made.new.items) }
+            (side_at self.old intake.old.stream (made_by intake.old.stream)) result
+            (side_at self.new intake.new.stream (made_by intake.new.stream)) }
+        ensures added { AddsEdges intake.old.stream making.old intake.new.stream making.new }
         ensures limits { intake.new.limits ≡ intake.old.limits }
         ensures cause { BreaksForCause intake.old.limits thread intake.old.stream self.old
             → BreaksForCause intake.old.limits thread intake.new.stream self.new }
@@ -177,7 +181,7 @@ impl LaneInput {
             return Ok(Pulled::Empty);
         };
         let note = Note { thread, ..front };
-        let offered = accept_with_edges(alloc, intake, made, &note);
+        let offered = accept_with_edges(alloc, intake, making, &note);
         self.take_front(&note, offered)
     }
 

@@ -47,6 +47,7 @@ mod gathered;
 mod lane_input;
 mod laws;
 mod made_before;
+mod making;
 pub mod preallocated;
 mod pull_and_ship;
 mod pulled;

@@ -1,10 +1,10 @@
 //! The edges of notes that were collected, found once more.
 ghost use Rattle.std.specs.Prelude.{◌≡◌, [], ◌∷◌, ◌++◌, IfOk, OnOk};
 ghost use Rattle.gl_intake.specs.Stream.{AreInOrder, IsNext};
-ghost use Rattle.gl_engine.specs.Dealing.{made_by};
+ghost use Rattle.gl_engine.specs.bodies.Sparing.{IsMadeOf};
 
 use crate::lane_input::accept_with_edges;
-use gl_edges::{Edge, Sample};
+use crate::making::Making;
 use gl_event::{Limits, Memory, Note};
 use gl_intake::Intake;
 use std::alloc::{AllocError, Global};
@@ -14,39 +14,43 @@ use std::alloc::{AllocError, Global};
 fn take_again(
     alloc: Global,
     intake: &mut Intake,
-    made: &mut Vec<(Edge, Sample)>,
+    making: &mut Making,
     note: &Note,
 ) -> Result<(), Memory>
     requires next { IsNext intake.old.limits intake.old.stream note.now }
-    requires made { made.old.items ≡ made_by intake.old.stream }
-    ensures made { OnOk result (made.new.items ≡ made_by intake.new.stream) }
+    requires made { IsMadeOf intake.old.stream making.old }
+    ensures made { OnOk result (IsMadeOf intake.new.stream making.new) }
+    ensures spares { making.new.spares ≡ making.old.spares }
     ensures stream { OnOk result (intake.new.stream ≡ intake.old.stream ++ note.now ∷ []) }
     ensures limits { intake.new.limits ≡ intake.old.limits }
 {
-    match accept_with_edges(alloc, intake, made, note) {
+    match accept_with_edges(alloc, intake, making, note) {
         Ok(_) => Ok(()),
         Err(_) => Err(AllocError),
     }
 }
 
-/// The edges that these notes make, in their order. Each is its thread's next one after those before it.
+/// The edges that these notes make, in their order, but for repeats, where these are spared. Each note is its
+/// thread's next one after those before it.
 ///
 /// Err where memory was refused.
 pub fn made_by_notes(
     alloc: Global,
     limits: &Limits,
+    spares: bool,
     notes: &[Note],
-) -> Result<Vec<(Edge, Sample)>, Memory>
+) -> Result<Making, Memory>
     requires in_order { AreInOrder limits.now notes.now }
-    ensures { IfOk result (λ made. made.items ≡ made_by notes.now) }
+    ensures made { IfOk result (λ making. IsMadeOf notes.now making) }
+    ensures spares { IfOk result (λ making. making.spares ≡ spares) }
 {
-    let mut made = Vec::new(alloc);
+    let mut making = Making::new(alloc, limits.threads(), spares)?;
     if notes.is_empty() {
-        return Ok(made);
+        return Ok(making);
     }
     let mut intake = Intake::new(alloc, limits)?;
     for note in notes {
-        take_again(alloc, &mut intake, &mut made, note)?;
+        take_again(alloc, &mut intake, &mut making, note)?;
     }
-    Ok(made)
+    Ok(making)
 }

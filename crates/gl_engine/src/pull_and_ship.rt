@@ -7,12 +7,14 @@ ghost use Rattle.gl_shards.specs.Shards as shards_of;
 ghost use Rattle.gl_engine.specs.bodies.Breaking.{IsGoneAt, IsKeptFor, TellsTaken};
 ghost use Rattle.gl_engine.specs.Gathering.{ReachShards};
 ghost use Rattle.gl_engine.specs.bodies.Shipping.{HaveShipped, CanBegin, Ships};
+ghost use Rattle.gl_engine.specs.bodies.Sparing.{NotesMade};
 ghost use Rattle.gl_engine.specs.Settling.{HaveEndedBelow};
 ghost use Rattle.gl_engine.specs.bodies.Whole.{CanTakeTurns, GoesOn, HasMoved, HasTakenTurns, KeepsNotes, PullsOn};
 
 use crate::discarding::discard_all;
 use crate::gathered::RunFault;
 use crate::lane_input::LaneInput;
+use crate::making::Making;
 use crate::pulled::{PullFault, Pulled};
 use gl_edges::{Edge, Sample};
 use gl_event::ThreadId;
@@ -88,16 +90,17 @@ fn pull_at(
     thread: ThreadId,
     inputs: &mut Vec<LaneInput>,
     intake: &mut Intake,
-    made: &mut Vec<(Edge, Sample)>,
+    making: &mut Making,
 ) -> Result<bool, RunFault>
     requires known { thread < intake.old.limits.threads }
     requires keeps { KeepsNotes intake.old inputs.old.items }
+    requires notes { NotesMade intake.old.stream making.old }
     ensures pulls_on { PullsOn 1 thread intake.old intake.new inputs.old.items
-        inputs.new.items made.old.items made.new.items result }
+        inputs.new.items making.old making.new result }
     ensures moved { IfOk result (HasMoved intake.old.stream intake.new.stream) }
 {
     let input = &mut inputs[thread.number() as usize];
-    let pulled = input.pull_with_edges(alloc, thread, intake, made);
+    let pulled = input.pull_with_edges(alloc, thread, intake, making);
     has_pulled(thread, &pulled)
 }
 
@@ -108,17 +111,18 @@ fn pull_some(
     thread: ThreadId,
     inputs: &mut Vec<LaneInput>,
     intake: &mut Intake,
-    made: &mut Vec<(Edge, Sample)>,
+    making: &mut Making,
 ) -> Result<bool, RunFault>
     requires known { thread < intake.old.limits.threads }
     requires keeps { KeepsNotes intake.old inputs.old.items }
+    requires notes { NotesMade intake.old.stream making.old }
     ensures pulls_on { PullsOn 64 thread intake.old intake.new inputs.old.items
-        inputs.new.items made.old.items made.new.items result }
+        inputs.new.items making.old making.new result }
     ensures moved { IfOk result (HasMoved intake.old.stream intake.new.stream) }
 {
     let mut moved = false;
     for _ in 0..BURST {
-        let pulled = pull_at(alloc, thread, inputs, intake, made)?;
+        let pulled = pull_at(alloc, thread, inputs, intake, making)?;
         if !pulled {
             return Ok(moved);
         }
@@ -135,16 +139,16 @@ fn turn<R: Wait>(
     thread: ThreadId,
     inputs: &mut Vec<LaneInput>,
     intake: &mut Intake,
-    made: &mut Vec<(Edge, Sample)>,
+    making: &mut Making,
     outlets: &mut Vec<Outlet>,
 ) -> Result<bool, RunFault>
     requires known { thread < intake.old.limits.threads }
-    requires begins { CanTakeTurns intake.old inputs.old.items made.old.items outlets.old.items }
-    ensures { HasTakenTurns intake.old intake.new inputs.old.items inputs.new.items made.new.items
-        outlets.old.items outlets.new.items result }
+    requires begins { CanTakeTurns intake.old inputs.old.items making.old outlets.old.items }
+    ensures { HasTakenTurns intake.old intake.new inputs.old.items inputs.new.items making.old
+        making.new outlets.old.items outlets.new.items result }
 {
-    let pulled = pull_some(alloc, thread, inputs, intake, made)?;
-    ship(rt, outlets, made)?;
+    let pulled = pull_some(alloc, thread, inputs, intake, making)?;
+    ship(rt, outlets, &mut making.made)?;
     Ok(pulled)
 }
 
@@ -155,18 +159,18 @@ fn round<R: Wait>(
     threads: u32,
     inputs: &mut Vec<LaneInput>,
     intake: &mut Intake,
-    made: &mut Vec<(Edge, Sample)>,
+    making: &mut Making,
     outlets: &mut Vec<Outlet>,
 ) -> Result<bool, RunFault>
     requires all { threads ≡ intake.old.limits.threads }
-    requires begins { CanTakeTurns intake.old inputs.old.items made.old.items outlets.old.items }
-    ensures { HasTakenTurns intake.old intake.new inputs.old.items inputs.new.items made.new.items
-        outlets.old.items outlets.new.items result }
+    requires begins { CanTakeTurns intake.old inputs.old.items making.old outlets.old.items }
+    ensures { HasTakenTurns intake.old intake.new inputs.old.items inputs.new.items making.old
+        making.new outlets.old.items outlets.new.items result }
 {
     let mut moved = false;
     for number in 0..threads {
         let thread = ThreadId::new(number);
-        let pulled = turn(rt, alloc, thread, inputs, intake, made, outlets)?;
+        let pulled = turn(rt, alloc, thread, inputs, intake, making, outlets)?;
         moved = moved || pulled;
     }
     Ok(moved)
@@ -180,22 +184,22 @@ fn pull_until_ended<R: Wait>(
     threads: u32,
     inputs: &mut Vec<LaneInput>,
     intake: &mut Intake,
-    made: Vec<(Edge, Sample)>,
+    making: Making,
     outlets: &mut Vec<Outlet>,
 ) -> Result<(), RunFault>
-    requires begins { CanBegin threads intake.old inputs.old.items made.items outlets.old.items }
-    ensures goes_on { GoesOn intake.old intake.new inputs.old.items inputs.new.items
+    requires begins { CanBegin threads intake.old inputs.old.items making outlets.old.items }
+    ensures goes_on { GoesOn making.spares intake.old intake.new inputs.old.items inputs.new.items
         outlets.old.items outlets.new.items result }
     ensures ended { OnOk result (HaveEndedBelow intake.new.stream intake.old.limits.threads) }
 {
-    let mut made = made;
-    ship(rt, outlets, &mut made)?;
+    let mut making = making;
+    ship(rt, outlets, &mut making.made)?;
     let mut looks: u32 = 0;
     for _ in rt.forever() {
         if intake.all_ended() {
             return Ok(());
         }
-        if round(rt, alloc, threads, inputs, intake, &mut made, outlets)? {
+        if round(rt, alloc, threads, inputs, intake, &mut making, outlets)? {
             looks = 0;
         } else {
             pause(rt, looks);
@@ -213,15 +217,15 @@ pub(crate) fn collect_all<R: Wait>(
     threads: u32,
     inputs: &mut Vec<LaneInput>,
     intake: &mut Intake,
-    made: Vec<(Edge, Sample)>,
+    making: Making,
     outlets: &mut Vec<Outlet>,
 ) -> Result<(), RunFault>
-    requires begins { CanBegin threads intake.old inputs.old.items made.items outlets.old.items }
-    ensures goes_on { GoesOn intake.old intake.new inputs.old.items inputs.new.items
+    requires begins { CanBegin threads intake.old inputs.old.items making outlets.old.items }
+    ensures goes_on { GoesOn making.spares intake.old intake.new inputs.old.items inputs.new.items
         outlets.old.items outlets.new.items result }
     ensures ended { OnOk result (HaveEndedBelow intake.new.stream intake.old.limits.threads) }
 {
-    match pull_until_ended(rt, alloc, threads, inputs, intake, made, outlets) {
+    match pull_until_ended(rt, alloc, threads, inputs, intake, making, outlets) {
         Ok(()) => Ok(()),
         Err(fault) => {
             discard_all(rt, inputs, intake, threads);

@@ -166,7 +166,7 @@ fn run_with_handles<'s, E, R: Threads + Wait + Sync, G: Gate + Sync>(
         return Err(LiveFault::Unconfirmed);
     }
     start.begin(workers.as_slice(), recorders.as_slice(), wanted);
-    let gathered = collector.run(rt, outlets);
+    let gathered = collector.run_without_repeats(rt, outlets);
     join_threads(rt, gathered, workers, recorders, receipts, served)
 }
 

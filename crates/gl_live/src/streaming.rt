@@ -186,7 +186,7 @@ fn run_collector<R: Wait>(rt: &R, collector: Collector, outlets: Vec<Outlet>) ->
     requires unused { AreUnused outlets.items }
     ensures { HasGathered collector outlets.items result }
 {
-    collector.run(rt, outlets)
+    collector.run_without_repeats(rt, outlets)
 }
 
 // Starts the workers, and then the collector's thread. None where one can't be started.

@@ -4,8 +4,8 @@ ghost use Rattle.gl_event.specs.Bounds.{greatest};
 ghost use Rattle.gl_event.specs.Lawful.{IsLawful};
 ghost use Rattle.gl_edges.specs.Edges.{edges_of_list};
 
-use gl_edges::{Edge, Sample, Tracker};
-use gl_event::{Event, Memory, ThreadId};
+use gl_edges::{Acquires, Edge, Sample, Tracker};
+use gl_event::{Event, Memory, ThreadId, ThreadState};
 use std::alloc::Global;
 
 /// The edges of the thread's events, one event after the other; an edge stands there as often as it is
@@ -23,6 +23,23 @@ pub fn stepped(
     for event in list {
         let mut pairs = tracker.step(alloc, *event)?;
         found.append(&mut pairs)?;
+    }
+    Ok(found)
+}
+
+/// The edges of the thread's events, one event after the other, but for those of acquires that it made
+/// before. Err where memory was refused.
+pub fn unrepeated(
+    alloc: Global,
+    thread: ThreadId,
+    list: &[Event],
+) -> Result<Vec<(Edge, Sample)>, Memory> {
+    let mut state = ThreadState::new();
+    let mut acquires = Acquires::new(alloc, thread);
+    let mut found = Vec::new(alloc);
+    for event in list {
+        acquires.add_new_edges(alloc, thread, &state, event, &mut found)?;
+        let _ = state.take(*event);
     }
     Ok(found)
 }

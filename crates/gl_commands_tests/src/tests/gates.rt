@@ -59,6 +59,14 @@ fn gated_workers(rt: HostRuntime) {
 // e is held for, which are 5, 3 and 1; the second those of b and d, 4 and 2.
 const NESTED: &[u8] = b"T|acq(a)|1\nT|acq(b)|2\nT|acq(c)|3\nT|acq(d)|4\nT|acq(e)|5\nT|acq(f)|6\n";
 
+// Two locks, one inside the other, three times in the one order and twice in the other: an edge for each order, and
+// repeats, which aren't shipped again, as they have later samples.
+const REPEATED: &[u8] = b"T|acq(a)|1\nT|acq(b)|2\nT|rel(b)|3\nT|rel(a)|4\n\
+T|acq(a)|1\nT|acq(b)|2\nT|rel(b)|3\nT|rel(a)|4\n\
+T|acq(b)|5\nT|acq(a)|6\nT|rel(a)|7\nT|rel(b)|8\n\
+T|acq(a)|9\nT|acq(b)|10\nT|rel(b)|11\nT|rel(a)|12\n\
+T|acq(b)|5\nT|acq(a)|6\nT|rel(a)|7\nT|rel(b)|8\n";
+
 // A gate that counts the edges of two shards, and what is told of them that isn't so.
 #[derive(Drop)]
 struct Count {
@@ -87,29 +95,40 @@ fn expect_clean(rt: &impl Abort, ended: &Ended, printed: &[u8]) {
 }
 
 // All edges were counted, and what was told of each is so.
-fn expect_counts(rt: &impl Abort, gate: &Count) {
-    assert_eq!(rt; gate.first.load(Ordering::SeqCst), 9);
-    assert_eq!(rt; gate.second.load(Ordering::SeqCst), 6);
+fn expect_counts(rt: &impl Abort, gate: &Count, counts: (u64, u64)) {
+    assert_eq!(rt; gate.first.load(Ordering::SeqCst), counts.0);
+    assert_eq!(rt; gate.second.load(Ordering::SeqCst), counts.1);
     assert_eq!(rt; gate.wrong.load(Ordering::SeqCst), 0);
 }
 
-// Each edge passes the gate once, at its own shard, with the number of those before it.
-fn expect_each_edge<R: AllocGlobal + Abort + Threads + Wait + Sync>(rt: &R, ask: Ask) {
+// Of a text without a cycle so many edges pass the gate, each at its own shard, with the number of those before it.
+fn expect_edges<R: AllocGlobal + Abort + Threads + Wait + Sync>(
+    rt: &R,
+    ask: Ask,
+    text: &'static [u8],
+    counts: (u64, u64),
+) {
     let gate = Count {
         first: AtomicU64::new(0),
         second: AtomicU64::new(0),
         wrong: AtomicU64::new(0),
     };
-    let mut input = FromStd::new(NESTED);
+    let mut input = FromStd::new(text);
     let (ended, printed) = gated(rt, ask, &mut input, &gate).expect(rt, "a session");
     expect_clean(rt, &ended, &printed);
-    expect_counts(rt, &gate);
+    expect_counts(rt, &gate, counts);
 }
 
 #[test]
 fn each_edge_passes(rt: HostRuntime) {
-    expect_each_edge(&rt, Ask::Live(1, 2, 256));
-    expect_each_edge(&rt, Ask::Stream(64, 2));
+    expect_edges(&rt, Ask::Live(1, 2, 256), NESTED, (9, 6));
+    expect_edges(&rt, Ask::Stream(64, 2), NESTED, (9, 6));
+}
+
+#[test]
+fn repeats_are_spared(rt: HostRuntime) {
+    expect_edges(&rt, Ask::Live(1, 2, 256), REPEATED, (1, 1));
+    expect_edges(&rt, Ask::Stream(64, 2), REPEATED, (1, 1));
 }
 
 // Gives its text at once, and holds back its end until two workers have met.

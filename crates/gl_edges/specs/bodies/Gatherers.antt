@@ -1,19 +1,14 @@
 -- What is known while the edges of a thread's list are gathered.
-use Rattle.std.specs.Prelude.{ℕ, ◌+◌, ◌<◌, List, ◌++◌, Contains}
+use Rattle.std.specs.Prelude.{ℕ, ◌+◌, List, ◌++◌}
 use Rattle.gl_event.specs.declared.events.LockMode.{LockMode}
 use Rattle.gl_event.specs.declared.held.HeldEntry.{HeldEntry}
 use Rattle.gl_edges.specs.Guards.{guards_of}
+use Rattle.gl_edges.specs.Known.{AreBefore}
 use Rattle.gl_edges.specs.bodies.Tables.{IsTableOf}
 use Rattle.gl_edges.specs.declared.edge.Edge.{Edge}
 use Rattle.gl_edges.specs.declared.edge.Sample.{Sample}
 use Rattle.gl_edges.specs.declared.gather.Gatherer.{Gatherer}
 use Rattle.gl_edges.specs.declared.tracker.Tracker.{Tracker}
-
--- each of these edges stands among the pairs, with a sample before this place
-abbrev pub AreBefore : List Edge → List (Edge × Sample) → ℕ → Type 0
-AreBefore edges pairs place =
-    (edge : Edge) → Contains edges edge → (sample : Sample) × Contains pairs (edge, sample)
-    × (sample.place < place)
 
 -- what a gatherer knows after these pairs, before this place of its thread's list
 pub record Gathers (pairs : List (Edge × Sample)) (place : ℕ) (gatherer : Gatherer) : Type 0 where

@@ -1,5 +1,6 @@
 -- Acquires that were made before, by their edges.
 use Rattle.std.specs.Prelude.{◌≡◌, ℕ, ◌+◌, ◌<◌, Bool, List, [], ◌∷◌, ◌++◌, map, Some, slice_get, slice_index_or, if◌then◌else◌}
+use Rattle.gl_event.specs.States.{State}
 use Rattle.gl_event.specs.declared.events.LockMode.{LockMode}
 use Rattle.gl_event.specs.declared.held.HeldEntry.{HeldEntry}
 use Rattle.gl_edges.specs.Guards.{ascending_guards, guards_of}
@@ -8,7 +9,6 @@ use Rattle.gl_edges.specs.declared.guards.Guard.{Guard}
 use Rattle.gl_edges.specs.declared.seen.Node.{Node}
 use Rattle.gl_edges.specs.declared.seen.Opened.{Opened}
 use Rattle.gl_edges.specs.declared.seen.Branch.{Branch}
-use Rattle.gl_edges.specs.declared.tracker.Tracker.{Tracker}
 
 -- what an edge needs of a held lock
 abbrev pub opened_of : HeldEntry → Opened
@@ -98,19 +98,19 @@ noted thread nodes = noted_after thread ([] ∷ []) nodes
 abbrev pub HasNotedAlike : List Node → List Node → Type 0
 HasNotedAlike before after = (thread : ℕ) → noted thread after ≡ noted thread before
 
--- the edges of the acquire of a lock that the tracked thread doesn't hold
-abbrev pub edges_now : Tracker → ℕ → LockMode → List Edge
-edges_now tracker wanted mode =
+-- the edges of the acquire of a lock that the thread of which this is known doesn't hold
+abbrev pub edges_now : ℕ → State → ℕ → LockMode → List Edge
+edges_now thread s wanted mode =
     map
     (λ h.
     record {
-      thread = tracker.thread;
+      thread = thread;
       held = h.lock;
       held_mode = h.mode;
       wanted = wanted;
       wanted_mode = mode;
       first = h.seg;
-      second = tracker.state.segments;
-      guards = guards_of tracker.state.held;
+      second = s.segments;
+      guards = guards_of s.held;
     })
-    tracker.state.held
+    s.held

@@ -11,7 +11,7 @@ use Rattle.gl_intake.specs.declared.notes.Refused.{Refused}
 use Rattle.gl_lane.specs.Lanes.{Popping}
 use Rattle.gl_world.specs.Keeping.{notes_of}
 use Rattle.gl_engine.specs.Collecting.{as_of, IsTurn}
-use Rattle.gl_engine.specs.Dealing.{dealt, made_by}
+use Rattle.gl_engine.specs.Dealing.{dealt, made_by, AreDue}
 use Rattle.gl_engine.specs.Gathering.{IsStoppedAt}
 use Rattle.gl_engine.specs.declared.gathered.RunFault.{RunFault}
 use Rattle.gl_engine.specs.declared.gathered.RunFault.TheVariants as kept
@@ -59,32 +59,44 @@ IsPullFault thread limits inputs stream (kept.Gone shard) = ⊥
 IsPullFault thread limits inputs stream (kept.Broken number why) =
     (number ≡ thread) × IsBroken limits inputs stream number why
 
--- the edges made were shipped up to one whose shard this is, and through each outlet this was sent
-pub record HasStopped (made : List (Edge × Sample)) (sent : List (List (Edge × Sample)))
+-- the edges due were shipped up to one whose shard this is, and through each outlet this was sent
+pub record HasStopped (due : List (Edge × Sample)) (sent : List (List (Edge × Sample)))
     (shard : ℕ) : Type 0 where
   pub shipped : List (Edge × Sample)
-  pub stopped : IsStoppedAt (length sent) made shipped shard
+  pub stopped : IsStoppedAt (length sent) due shipped shard
   pub dealt_are : sent ≡ dealt (length sent) shipped
 
 -- a worker is gone, and shipping stopped at its shard
 abbrev pub IsGoneAt : List (Edge × Sample) → List (List (Edge × Sample)) → RunFault → Type 0
-IsGoneAt made sent kept.Memory = ⊥
-IsGoneAt made sent (kept.Gone shard) = HasStopped made sent shard
-IsGoneAt made sent (kept.Broken thread why) = ⊥
+IsGoneAt due sent kept.Memory = ⊥
+IsGoneAt due sent (kept.Gone shard) = HasStopped due sent shard
+IsGoneAt due sent (kept.Broken thread why) = ⊥
 
--- through each outlet this was sent: the edges of all notes but of those that a turn of the thread had pulled last, after these first notes
-pub record HasLagged (first stream : List Note) (sent : List (List (Edge × Sample))) (thread : ℕ)
-    : Type 0 where
+-- through each outlet this was sent: the edges due of all notes but of those that a turn of the thread had pulled last, after these first notes
+pub record HasLagged (spares : Bool) (first stream : List Note)
+    (sent : List (List (Edge × Sample))) (thread : ℕ) : Type 0 where
   pub before : List Note
   pub later : IsPrefix first before
   pub turn : IsTurn 64 thread before stream
-  pub dealt_are : sent ≡ dealt (length sent) (made_by before)
+  pub due : List (Edge × Sample)
+  pub are_due : AreDue spares (made_by before) due
+  pub dealt_are : sent ≡ dealt (length sent) due
+
+-- the edges of the stream that are due were shipped up to one whose shard this is, and through each outlet this was sent
+pub record HasStoppedIn (spares : Bool) (stream : List Note) (sent : List (List (Edge × Sample)))
+    (shard : ℕ) : Type 0 where
+  pub due : List (Edge × Sample)
+  pub are_due : AreDue spares (made_by stream) due
+  pub stopped : HasStopped due sent shard
 
 -- through each outlet this was sent where the run stopped with this fault, which began with these first notes
-abbrev pub StopsWith : List Note → List Note → List (List (Edge × Sample)) → RunFault → Type 0
-StopsWith first stream sent kept.Memory = (thread : ℕ) × HasLagged first stream sent thread
-StopsWith first stream sent (kept.Gone shard) = HasStopped (made_by stream) sent shard
-StopsWith first stream sent (kept.Broken thread why) = HasLagged first stream sent thread
+abbrev pub StopsWith : Bool → List Note → List Note → List (List (Edge × Sample)) → RunFault
+    → Type 0
+StopsWith spares first stream sent kept.Memory =
+    (thread : ℕ) × HasLagged spares first stream sent thread
+StopsWith spares first stream sent (kept.Gone shard) = HasStoppedIn spares stream sent shard
+StopsWith spares first stream sent (kept.Broken thread why) =
+    HasLagged spares first stream sent thread
 
 -- what went wrong first: what did as all was gathered, or else the first worker that was gone as the feeds were ended
 abbrev pub first_of : Result (Unit {0}) RunFault → Option ℕ → Option RunFault

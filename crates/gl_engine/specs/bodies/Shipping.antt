@@ -4,9 +4,11 @@ use Rattle.gl_edges.specs.declared.edge.Edge.{Edge}
 use Rattle.gl_edges.specs.declared.edge.Sample.{Sample}
 use Rattle.gl_intake.specs.Stream.{Collected}
 use Rattle.gl_shards.specs.Feeds.{Sending}
-use Rattle.gl_engine.specs.Dealing.{dealt}
+use Rattle.gl_engine.specs.Dealing.{dealt, made_by}
 use Rattle.gl_engine.specs.Gathering.{ReachShards}
 use Rattle.gl_engine.specs.Keeping.{IsCollector}
+use Rattle.gl_engine.specs.bodies.Sparing.{IsMadeOf}
+use Rattle.gl_engine.specs.declared.making.Making.{Making}
 use Rattle.gl_engine.specs.declared.lane_input.LaneInput.{LaneInput}
 
 -- through each outlet those of these edges were sent that are its shard's, and no others
@@ -22,8 +24,10 @@ pub record Ships {A E : Type 0} (pairs : List (Edge × Sample)) (outlets later :
 
 -- a run of so many threads can begin: these edges were made by what was collected, and nothing was shipped
 pub record CanBegin (threads : ℕ) (collected : Collected) (inputs : List LaneInput)
-    (made : List (Edge × Sample)) (outlets : List Sending) : Type 0 where
+    (making : Making) (outlets : List Sending) : Type 0 where
   pub all : threads ≡ collected.limits.threads
-  pub collector : IsCollector collected.limits inputs collected.stream made collected.limits
+  pub collector : IsCollector collected.limits inputs collected.stream (made_by collected.stream)
+      collected.limits
+  pub making_is : IsMadeOf collected.stream making
   pub shards : ReachShards outlets
   pub unsent : HaveShipped outlets []

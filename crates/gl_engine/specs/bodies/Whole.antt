@@ -1,8 +1,9 @@
 -- What holds of what was gathered.
-use Rattle.std.specs.Prelude.{◌≡◌, ℕ, ◌<◌, Bool, true, false, List, [], ◌++◌, length, map, Option, Some, None, Result, slice_get, IfSome, IfOk, IfErr, OnOk}
+use Rattle.std.specs.Prelude.{◌≡◌, ℕ, ◌<◌, Bool, true, false, List, [], length, map, Option, Some, None, Result, slice_get, IfSome, IfOk, IfErr, OnOk}
 use mathlib.Core.List.{IsPrefix}
 use Rattle.gl_event.specs.Bounds.{Bounds}
 use Rattle.gl_event.specs.declared.notes.Note.{Note}
+use Rattle.gl_edges.specs.Edges.{once}
 use Rattle.gl_edges.specs.declared.edge.Edge.{Edge}
 use Rattle.gl_edges.specs.declared.edge.Sample.{Sample}
 use Rattle.gl_intake.specs.Stream.{has_ended, AreInOrder, Collected}
@@ -12,11 +13,13 @@ use Rattle.gl_world.specs.Keeping.{notes_of, AreMade}
 use Rattle.gl_engine.specs.bodies.Breaking.{IsBlamed, IsPullFault, StopsWith}
 use Rattle.gl_engine.specs.Gathering.{ReachShards}
 use Rattle.gl_engine.specs.bodies.Shipping.{HaveShipped}
+use Rattle.gl_engine.specs.bodies.Sparing.{AddsEdges, NotesMade}
 use Rattle.gl_engine.specs.Collecting.{as_of, IsTurn}
 use Rattle.gl_engine.specs.Keeping.{AreNotesOf, IsCollector}
 use Rattle.gl_engine.specs.Recording.{Closed}
-use Rattle.gl_engine.specs.Dealing.{dealt, made_by}
+use Rattle.gl_engine.specs.Dealing.{dealt, made_by, AreDue}
 use Rattle.gl_engine.specs.declared.gathered.RunFault.{RunFault}
+use Rattle.gl_engine.specs.declared.making.Making.{Making}
 use Rattle.gl_engine.specs.declared.lane_input.LaneInput.{LaneInput}
 
 -- an input's lane
@@ -27,33 +30,27 @@ lane_of input = input.lane.lane
 abbrev pub KeepsNotes : Collected → List LaneInput → Type 0
 KeepsNotes c inputs = IsCollector c.limits inputs c.stream (made_by c.stream) c.limits
 
--- a run has kept up so far: what a collector keeps of the notes collected, and to each shard the edges were shipped that are its own
-pub record KeepsUp (limits : Bounds) (inputs : List LaneInput) (stream : List Note)
+-- a run has kept up so far: what a collector keeps of the notes collected, and to each shard the edges due were shipped that are its own
+pub record KeepsUp (spares : Bool) (limits : Bounds) (inputs : List LaneInput) (stream : List Note)
     (outlets : List Sending) : Type 0 where
   pub collector : IsCollector limits inputs stream (made_by stream) limits
-  pub shipped : HaveShipped outlets (made_by stream)
+  pub due : List (Edge × Sample)
+  pub are_due : AreDue spares (made_by stream) due
+  pub shipped : HaveShipped outlets due
 
 -- whether there are more notes than before; if not, they are the same ones
 abbrev pub HasMoved : List Note → List Note → Bool → Type 0
 HasMoved before after true = length before < length after
 HasMoved before after false = after ≡ before
 
--- the edges of the notes that came were added to those made: beside any that were shipped, these
--- are all that the notes make, if they were before
-abbrev pub AddsEdges : List Note → List (Edge × Sample) → List Note → List (Edge × Sample)
-    → Type 0
-AddsEdges before made after more =
-    (shipped : List (Edge × Sample)) → shipped ++ made ≡ made_by before
-    → shipped ++ more ≡ made_by after
-
 -- pulls off the thread's lane, at most so many, went on from there: the collector's inputs and edges
 -- are those of what was collected, and the edges were added to those made; lanes and limits stay, what
 -- was collected stays, and where something goes wrong that is to blame: never a worker
 pub record PullsOn {A : Type 0} (most thread : ℕ) (before after : Collected)
-    (inputs later : List LaneInput) (made more : List (Edge × Sample)) (result : Result A RunFault)
+    (inputs later : List LaneInput) (making more : Making) (result : Result A RunFault)
     : Type 0 where
   pub keeps : IsCollector before.limits later after.stream (made_by after.stream) before.limits
-  pub added : AddsEdges before.stream made after.stream more
+  pub added : AddsEdges before.stream making after.stream more
   pub limits : after.limits ≡ before.limits
   pub lanes : map lane_of later ≡ map lane_of inputs
   pub grown : IsTurn most thread before.stream after.stream
@@ -61,31 +58,39 @@ pub record PullsOn {A : Type 0} (most thread : ℕ) (before after : Collected)
 
 -- a run went on from there: as long as nothing goes wrong it keeps up; lanes, feeds and limits stay, what was collected stays, and
 -- where something goes wrong that is to blame, and it is known what was sent until then
-pub record GoesOn {A : Type 0} (before after : Collected) (inputs later : List LaneInput)
-    (outlets shipped : List Sending) (result : Result A RunFault) : Type 0 where
-  pub keeps : OnOk result (KeepsUp before.limits later after.stream shipped)
+pub record GoesOn {A : Type 0} (spares : Bool) (before after : Collected)
+    (inputs later : List LaneInput) (outlets shipped : List Sending) (result : Result A RunFault)
+    : Type 0 where
+  pub keeps : OnOk result (KeepsUp spares before.limits later after.stream shipped)
   pub limits : after.limits ≡ before.limits
   pub lanes : map lane_of later ≡ map lane_of inputs
   pub feeds : map (λ o. o.feed) shipped ≡ map (λ o. o.feed) outlets
   pub grown : IsPrefix before.stream after.stream
   pub blamed : IfErr result (IsBlamed before.limits later after.stream)
-  pub stopped : IfErr result (StopsWith before.stream after.stream (map (λ o. o.sent) shipped))
+  pub stopped : IfErr result
+      (StopsWith spares before.stream after.stream (map (λ o. o.sent) shipped))
 
--- a run can take turns: no edge that was made waits to be shipped, there is an outlet for each shard, and the run has kept up
-pub record CanTakeTurns (before : Collected) (inputs : List LaneInput)
-    (made : List (Edge × Sample)) (outlets : List Sending) : Type 0 where
-  pub none : made ≡ []
+-- no edge that was made waits to be shipped, and of the acquires that are known the edges were made
+pub record HasNoneLeft (stream : List Note) (making : Making) : Type 0 where
+  pub none : making.made.items ≡ []
+  pub notes : NotesMade stream making
+
+-- a run can take turns: no edge waits to be shipped, there is an outlet for each shard, and the run has kept up
+pub record CanTakeTurns (before : Collected) (inputs : List LaneInput) (making : Making)
+    (outlets : List Sending) : Type 0 where
+  pub left : HasNoneLeft before.stream making
   pub shards : ReachShards outlets
-  pub kept : KeepsUp before.limits inputs before.stream outlets
+  pub kept : KeepsUp making.spares before.limits inputs before.stream outlets
 
 -- a run took turns, and answers whether a note was pulled: it went on from there, and unless something went wrong no edge waits to
 -- be shipped
 pub record HasTakenTurns (before after : Collected) (inputs later : List LaneInput)
-    (more : List (Edge × Sample)) (outlets shipped : List Sending) (result : Result Bool RunFault)
+    (making more : Making) (outlets shipped : List Sending) (result : Result Bool RunFault)
     : Type 0 where
-  pub goes_on : GoesOn before after inputs later outlets shipped result
+  pub goes_on : GoesOn making.spares before after inputs later outlets shipped result
   pub moved : IfOk result (HasMoved before.stream after.stream)
-  pub none : OnOk result (more ≡ [])
+  pub left : OnOk result (HasNoneLeft after.stream more)
+  pub spares : more.spares ≡ making.spares
 
 -- all was collected: each thread's notes in order and as they were popped, up to its end mark
 pub record IsCollected (limits : Bounds) (inputs : List LaneInput)
@@ -95,13 +100,15 @@ pub record IsCollected (limits : Bounds) (inputs : List LaneInput)
   pub in_order : AreInOrder limits stream
   pub ended : (thread : ℕ) → thread < limits.threads → has_ended thread stream ≡ true
 
--- all was collected, and shipped: to each shard those of the edges made that are its own
+-- all was collected, and shipped: to each shard those of some edges that are its own, of which each edge made is one, with its least sample
 pub record IsWhole (limits : Bounds) (inputs : List LaneInput) (stream : List Note)
     (sent : List AllSent) : Type 0 where
   pub collected : IsCollected limits inputs stream
   pub made_are : AreMade limits.threads stream (made_by stream)
   pub some : 0 < length sent
-  pub shipped : map (λ s. s.sent) sent ≡ dealt (length sent) (made_by stream)
+  pub due : List (Edge × Sample)
+  pub table : once due ≡ once (made_by stream)
+  pub shipped : map (λ s. s.sent) sent ≡ dealt (length sent) due
 
 -- there is an input for each thread; all was collected and shipped unless something went wrong, and where a lane broke, there is a note to blame
 pub record IsGathered (limits : Bounds) (inputs : List LaneInput) (stream : List Note)

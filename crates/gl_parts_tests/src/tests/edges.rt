@@ -3,7 +3,7 @@ ghost use Rattle.gl_edges.specs.Numbered.{guards_in, AreNumbered};
 
 use super::wanted::Wanted;
 use super::{are_wanted, expect};
-use crate::stepping::stepped;
+use crate::stepping::{stepped, unrepeated};
 use gl_edges::{Edge, EdgeList, Guard, GuardSets, Guards, Sample};
 use gl_event::{Event, LockId, LockMode, Memory, ThreadId};
 use gl_worked::known::lawful_edges;
@@ -35,13 +35,15 @@ enum Ask {
     Same(Lists),
     // of the first list, event by event, there are so many, and these are the last ones
     Stepped(usize, &'static [Want]),
+    // the same, but for acquires that were made before
+    Unrepeated(usize, &'static [Want]),
     // the number of the guard set of the edge at a position
     Number(usize, usize),
     // whether the guard sets at two positions clash
     Clash(usize, usize, bool),
 }
 
-use Ask::{Clash, Count, CountTo, Edges, Number, Same, Stepped};
+use Ask::{Clash, Count, CountTo, Edges, Number, Same, Stepped, Unrepeated};
 
 // Lists of events, which have to be lawful, and what is asked of their edges.
 #[derive(Clone, Copy)]
@@ -197,13 +199,13 @@ const COUNTS: &[Case] = &[
     Case {
         name: "repeated_nesting",
         lists: Parts(&[(NEST, 3)]),
-        asks: &[Count(10), Same(Parts(&[(NEST, 1)]))],
+        asks: &[Count(10), Same(Parts(&[(NEST, 1)])), Unrepeated(10, &[])],
     },
     // In another segment they make other edges.
     Case {
         name: "nesting_after_fork",
         lists: Parts(&[(NEST, 1), (&[Fork(1, 3)], 1), (NEST, 1)]),
-        asks: &[Count(20)],
+        asks: &[Count(20), Unrepeated(20, &[])],
     },
     // Lock 3 is opened once more, in another segment than before: that makes one edge more to lock 4,
     // while those from the locks that stayed held are there already.
@@ -223,6 +225,37 @@ const COUNTS: &[Case] = &[
         ]]),
         asks: &[CountTo(4, 5)],
     },
+    // Lock 1 inside lock 0, and then inside it in the other mode, in the other mode itself, beside another
+    // lock, and once more as at first, elsewhere.
+    Case {
+        name: "acquires_apart",
+        lists: Told(&[&[
+            Acq(0, 1),
+            Acq(1, 2),
+            Rel(1, 3),
+            Rel(0, 4),
+            Racq(0, 5),
+            Acq(1, 6),
+            Rel(1, 7),
+            Rel(0, 8),
+            Acq(0, 9),
+            Racq(1, 10),
+            Rel(1, 11),
+            Acq(2, 12),
+            Acq(1, 13),
+            Rel(1, 14),
+            Rel(2, 15),
+            Acq(1, 16),
+        ]]),
+        asks: &[Unrepeated(
+            6,
+            &[
+                Want(X, [0, 0, 2], [0, 0], &[0], [11, 9, 12]),
+                Want(X, [0, 0, 1], [0, 0], &[0, 2], [12, 9, 13]),
+                Want(X, [0, 2, 1], [0, 0], &[0, 2], [12, 12, 13]),
+            ],
+        )],
+    },
     // Lock 1 is taken inside lock 0 again and again, and then, at place 10,000, lock 3 inside the locks 0 and
     // 2: a step there makes its edges as a first one does.
     Case {
@@ -235,6 +268,24 @@ const COUNTS: &[Case] = &[
         asks: &[Stepped(
             5_002,
             &[
+                Want(X, [0, 0, 3], [0, 0], &[0, 2], [10_000, 1, 5]),
+                Want(X, [0, 2, 3], [0, 0], &[0, 2], [10_000, 4, 5]),
+            ],
+        )],
+    },
+    // The same, with lock 1 once.
+    Case {
+        name: "ten_thousand_repeats",
+        lists: Parts(&[
+            (&[Acq(0, 1)], 1),
+            (&[Acq(1, 2), Rel(1, 3)], 4_999),
+            (&[Acq(2, 4), Acq(3, 5)], 1),
+        ]),
+        asks: &[Unrepeated(
+            4,
+            &[
+                Want(X, [0, 0, 1], [0, 0], &[0], [1, 1, 2]),
+                Want(X, [0, 0, 2], [0, 0], &[0], [9_999, 1, 4]),
                 Want(X, [0, 0, 3], [0, 0], &[0, 2], [10_000, 1, 5]),
                 Want(X, [0, 2, 3], [0, 0], &[0, 2], [10_000, 4, 5]),
             ],
@@ -345,6 +396,20 @@ fn ends_with(pairs: &[(Edge, Sample)], count: usize, wants: &[Want]) -> bool {
     pairs.len() == count && wants.len() <= count && are_wanted(&pairs[count - wants.len()..], wants)
 }
 
+// Whether, with repeats spared, there are so many of the first list, and these are the last ones.
+fn is_unrepeated(alloc: Global, lists: Lists, count: usize, wants: &[Want]) -> bool {
+    let Some(lists) = made(alloc, lists) else {
+        return false;
+    };
+    let Some(list) = lists.first() else {
+        return false;
+    };
+    match unrepeated(alloc, ThreadId::new(0), list) {
+        Ok(pairs) => ends_with(&pairs, count, wants),
+        Err(_) => false,
+    }
+}
+
 fn is_stepped(alloc: Global, lists: Lists, count: usize, wants: &[Want]) -> bool {
     match made(alloc, lists) {
         Some(lists) => match stepped_edges(alloc, &lists) {
@@ -396,6 +461,7 @@ fn answers(alloc: Global, lists: Lists, edges: &EdgeList, ask: &Ask) -> bool {
         CountTo(lock, count) => count_to(edges.entries(), lock) == count,
         Same(lists) => is_same(alloc, edges, lists),
         Stepped(count, wants) => is_stepped(alloc, lists, count, wants),
+        Unrepeated(count, wants) => is_unrepeated(alloc, lists, count, wants),
         Number(_, _) | Clash(_, _, _) => answers_by_number(alloc, edges, ask),
     }
 }

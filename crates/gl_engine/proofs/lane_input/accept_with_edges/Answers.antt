@@ -1,31 +1,41 @@
-use Rattle.std.proofs.Common.{◌≡◌, ◌++◌, length, take, ap, ◌∙◌, arith}
-use Rattle.std.proofs.Math.Seq.{take-append_seam}
-use Rattle.std.proofs.lemmas.Result.{IfOk-weaker}
+use Rattle.std.proofs.Common.{◌≡◌, length, sym, subst, arith}
 use Rattle.gl_intake.specs.Stream.{events_of}
 use Rattle.gl_intake.proofs.Next.{next_of_none}
-use Rattle.gl_engine.proofs.Sides.{due_is, grown_by_none}
+use Rattle.gl_engine.specs.bodies.Sparing.{AddsEdges, HasAdded}
+use Rattle.gl_engine.proofs.Sides.{due_is}
+use Rattle.gl_engine.proofs.Sparing.{adds_none, adds_note, adds_offered, taken_back}
 use Rattle.gl_engine.proofs.lane_input.accept_with_edges.Goals as goal
 
-pub returns-then-makes_none-clause-grown : goal.returns-then-makes_none-clause-grown
-returns-then-makes_none-clause-grown c =
-    let limits = c.args.intake.now.limits in
+pub returns-then-makes_none-clause-added : goal.returns-then-makes_none-clause-added
+returns-then-makes_none-clause-added c =
     let stream = c.args.intake.now.stream in
     let note = c.args.note.now in
     let none = c.makes_none.ensures c.if-makes_none.true note.thread (events_of note.thread stream) in
-    IfOk-weaker c.offer.result _ _ (λ accepted allowed. grown_by_none limits stream note c.args.made.now.items allowed none) c.offer.ensures.offered.next
+    adds_offered c.args.intake.now.limits stream c.offer.new.self.stream note c.offer.result c.offer.ensures.offered c.args.making.now c.requires.notes none
 
-pub returns-in-Ok-offer-clause-grown : goal.returns-in-Ok-offer-clause-grown
-returns-in-Ok-offer-clause-grown c =
+pub returns-in_default-clause-added : goal.returns-in_default-clause-added
+returns-in_default-clause-added c =
+    let stream = c.args.intake.now.stream in
+    subst (λ after. AddsEdges stream c.args.making.now after c.add_due.new.making) (sym c.refusal_without_memory.ensures.stream)
+    (adds_none stream c.args.note.now.thread c.args.making.now c.add_due.new.making c.requires.notes c.in_default.ensures.none)
+
+pub returns-in-Ok-offer-clause-added : goal.returns-in-Ok-offer-clause-added
+returns-in-Ok-offer-clause-added c =
     let limits = c.args.intake.now.limits in
     let stream = c.args.intake.now.stream in
     let note = c.args.note.now in
+    let next = next_of_none limits stream note c.in-Ok-offer.ensures.offered.next in
     let added = c.in-Ok.ensures.added (events_of note.thread stream) c.state-state.ensures in
-    added ∙ ap (λ pairs. c.args.made.now.items ++ pairs) (due_is limits stream note (next_of_none limits stream note c.in-Ok-offer.ensures.offered.next))
+    subst (λ after. AddsEdges stream c.args.making.now after c.add_due.new.making) (sym c.in-Ok-offer.ensures.offered.grown)
+    (adds_note limits stream note next c.args.making.now c.add_due.new.making c.requires.notes
+    (subst (λ pairs. HasAdded note.thread pairs c.args.making.now c.add_due.new.making) (due_is limits stream note next) added))
 
-pub returns-in-Err-clause-unchanged : goal.returns-in-Err-clause-unchanged
-returns-in-Err-clause-unchanged c =
-    let made = c.args.made.now.items in
+pub returns-in-Err-clause-added : goal.returns-in-Err-clause-added
+returns-in-Err-clause-added c =
+    let stream = c.args.intake.now.stream in
     let note = c.args.note.now in
-    let added = c.in-Ok.ensures.added (events_of note.thread c.args.intake.now.stream) c.state-state.ensures in
-    let all : c.len-before.result ≡ length made = omega (arith, c.len-before.ensures) in
-    c.truncate.ensures.items ∙ (λ i. take (all i) (added i)) ∙ take-append_seam made _
+    let added = c.in-Ok.ensures.added (events_of note.thread stream) c.state-state.ensures in
+    let all : c.len-before.result ≡ length c.args.making.now.made.items = omega (arith, c.len-before.ensures) in
+    subst (λ after. AddsEdges stream c.args.making.now after c.take_back.new.self) (sym c.in-Err.ensures.offered.unchanged)
+    (adds_none stream note.thread c.args.making.now c.take_back.new.self c.requires.notes
+    (taken_back note.thread _ c.args.making.now c.add_due.new.making c.take_back.new.self c.len-before.result all added c.take_back.ensures.made c.take_back.ensures.spares c.take_back.ensures.forgotten))

@@ -1,5 +1,6 @@
 use Rattle.std.proofs.Common.{rules, ◌+◌, ◌∙◌, arith}
 use Rattle.gl_engine.proofs.Handing.{pulled_on, pulled_prefix}
+use Rattle.gl_engine.proofs.Sparing.{adds_on}
 use Rattle.gl_engine.proofs.Running.{moved_again, moved_still}
 use Rattle.gl_engine.proofs.pull_and_ship.pull_some.Goals as goal
 
@@ -13,7 +14,7 @@ pub loop-preserved : goal.loop-preserved
 loop-preserved c =
     record {
       keeps = rw (c.loop.invariant.limits) at c.pull_at.ensures.pulls_on.keeps;
-      added = λ shipped are. c.pull_at.ensures.pulls_on.added shipped (c.loop.invariant.added shipped are);
+      added = adds_on _ _ _ _ _ _ c.loop.invariant.added c.pull_at.ensures.pulls_on.added;
       limits = c.pull_at.ensures.pulls_on.limits ∙ c.loop.invariant.limits;
       lanes = c.pull_at.ensures.pulls_on.lanes ∙ c.loop.invariant.lanes;
       grown = pulled_on c.loop.counter 1 (c.loop.counter + 1) c.args.thread _ _ _ (omega arith) c.loop.invariant.grown c.pull_at.ensures.pulls_on.grown;
@@ -24,7 +25,7 @@ pub returns-in_err-pulled-clause-pulls_on : goal.returns-in_err-pulled-clause-pu
 returns-in_err-pulled-clause-pulls_on c =
     record {
       keeps = rw (c.loop.invariant.limits) at c.pull_at.ensures.pulls_on.keeps;
-      added = λ shipped are. c.pull_at.ensures.pulls_on.added shipped (c.loop.invariant.added shipped are);
+      added = adds_on _ _ _ _ _ _ c.loop.invariant.added c.pull_at.ensures.pulls_on.added;
       limits = c.pull_at.ensures.pulls_on.limits ∙ c.loop.invariant.limits;
       lanes = c.pull_at.ensures.pulls_on.lanes ∙ c.loop.invariant.lanes;
       grown = pulled_on c.loop.counter 1 64 c.args.thread _ _ _ (omega (arith, c.loop-test.true)) c.loop.invariant.grown c.pull_at.ensures.pulls_on.grown;
@@ -35,7 +36,7 @@ pub returns-then-not-pulled-clause-pulls_on : goal.returns-then-not-pulled-claus
 returns-then-not-pulled-clause-pulls_on c =
     record {
       keeps = rw (c.loop.invariant.limits) at c.pull_at.ensures.pulls_on.keeps;
-      added = λ shipped are. c.pull_at.ensures.pulls_on.added shipped (c.loop.invariant.added shipped are);
+      added = adds_on _ _ _ _ _ _ c.loop.invariant.added c.pull_at.ensures.pulls_on.added;
       limits = c.pull_at.ensures.pulls_on.limits ∙ c.loop.invariant.limits;
       lanes = c.pull_at.ensures.pulls_on.lanes ∙ c.loop.invariant.lanes;
       grown = pulled_on c.loop.counter 1 64 c.args.thread _ _ _ (omega (arith, c.loop-test.true)) c.loop.invariant.grown c.pull_at.ensures.pulls_on.grown;

@@ -6,31 +6,33 @@ use Rattle.gl_engine.proofs.pull_and_ship.pull_until_ended.Goals as goal
 
 pub round-requires-clause-begins : goal.round-requires-clause-begins
 round-requires-clause-begins g c = record {
-  none = c.loop.invariant.none;
+  left = c.loop.invariant.left;
   shards = shards_still c.args.outlets.now.items c.loop.outlets.items c.loop.invariant.feeds c.requires.begins.shards;
-  kept = rw (c.loop.invariant.limits) c.loop.invariant.keeps;
+  kept = rw (c.loop.invariant.limits, c.loop.invariant.spares) c.loop.invariant.keeps;
 }
 
 pub loop-preserved-then-branch : goal.loop-preserved-then-branch
 loop-preserved-then-branch g c = record {
-  keeps = rw (c.loop.invariant.limits) at c.in_ok-round.ensures.goes_on.keeps;
+  keeps = rw (c.loop.invariant.limits, c.loop.invariant.spares) at c.in_ok-round.ensures.goes_on.keeps;
   limits = c.round.ensures.goes_on.limits ∙ c.loop.invariant.limits;
   lanes = c.round.ensures.goes_on.lanes ∙ c.loop.invariant.lanes;
   feeds = c.round.ensures.goes_on.feeds ∙ c.loop.invariant.feeds;
   grown = prefix_on _ _ _ c.loop.invariant.grown c.round.ensures.goes_on.grown;
-  none = c.in_ok-round.ensures.none;
+  left = c.in_ok-round.ensures.left;
+  spares = c.round.ensures.spares ∙ c.loop.invariant.spares;
   next = search rules;
   finite = search rules;
 }
 
 pub loop-preserved : goal.loop-preserved
 loop-preserved g c = record {
-  keeps = rw (c.loop.invariant.limits) at c.in_ok-round.ensures.goes_on.keeps;
+  keeps = rw (c.loop.invariant.limits, c.loop.invariant.spares) at c.in_ok-round.ensures.goes_on.keeps;
   limits = c.round.ensures.goes_on.limits ∙ c.loop.invariant.limits;
   lanes = c.round.ensures.goes_on.lanes ∙ c.loop.invariant.lanes;
   feeds = c.round.ensures.goes_on.feeds ∙ c.loop.invariant.feeds;
   grown = prefix_on _ _ _ c.loop.invariant.grown c.round.ensures.goes_on.grown;
-  none = c.in_ok-round.ensures.none;
+  left = c.in_ok-round.ensures.left;
+  spares = c.round.ensures.spares ∙ c.loop.invariant.spares;
   next = search rules;
   finite = search rules;
 }
@@ -45,7 +47,7 @@ returns-in_err-ship-clause-goes_on g c =
       feeds = search rules;
       grown = search rules;
       blamed = rw (p.1, p.2) (blamed_gone c.args.intake.now.limits c.args.inputs.now.items c.args.intake.now.stream _ _ c.in_err-ship.field-0.0 (c.in_err-ship.ensures.stopped [] c.requires.begins.unsent));
-      stopped = rw (p.1, p.2) (stops_gone c.args.intake.now.stream c.args.intake.now.stream _ _ c.in_err-ship.field-0.0 c.requires.begins.collector.made_is (c.in_err-ship.ensures.stopped [] c.requires.begins.unsent));
+      stopped = rw (p.1, p.2) (stops_gone c.args.making.spares c.args.intake.now.stream c.args.intake.now.stream _ _ c.in_err-ship.field-0.0 c.requires.begins.making_is.due (c.in_err-ship.ensures.stopped [] c.requires.begins.unsent));
     }
 
 pub returns-in_err-ship-clause-ended : goal.returns-in_err-ship-clause-ended
@@ -63,7 +65,7 @@ returns-in_err-round-clause-goes_on g c =
       feeds = c.round.ensures.goes_on.feeds ∙ c.loop.invariant.feeds;
       grown = prefix_on _ _ _ c.loop.invariant.grown c.round.ensures.goes_on.grown;
       blamed = search rules;
-      stopped = rw (p.1, p.2) (stops_since _ _ _ _ c.loop.invariant.grown c.in_err-round.field-0.0 c.in_err-round.ensures.goes_on.stopped);
+      stopped = rw (p.1, p.2) (stops_since _ _ _ _ _ c.loop.invariant.grown c.in_err-round.field-0.0 (rw (c.loop.invariant.spares) at c.in_err-round.ensures.goes_on.stopped));
     }
 
 pub returns-in_err-round-clause-ended : goal.returns-in_err-round-clause-ended

@@ -1,17 +1,18 @@
-use Rattle.std.proofs.Common.{◌≡◌, [], map}
+use Rattle.std.proofs.Common.{◌≡◌, map}
 use mathlib.Core.List.{IsPrefix}
-use Rattle.gl_engine.specs.bodies.Whole.{lane_of, KeepsUp}
+use Rattle.gl_engine.specs.bodies.Whole.{lane_of, HasNoneLeft, KeepsUp}
 use Rattle.gl_engine.proofs.pull_and_ship.pull_until_ended.Given as goal
 
 -- the run has kept up, and lanes and feeds stay
 abbrev pub invariant-loop : goal.invariant-loop
 invariant-loop g l = record {
-  keeps : KeepsUp l.fn.intake.limits l.inputs.items l.intake.stream l.outlets.items;
+  keeps : KeepsUp l.fn.making.spares l.fn.intake.limits l.inputs.items l.intake.stream l.outlets.items;
   limits : l.intake.limits ≡ l.fn.intake.limits;
   lanes : map lane_of l.inputs.items ≡ map lane_of l.fn.inputs.items;
   feeds : map (λ o. o.feed) l.outlets.items ≡ map (λ o. o.feed) l.fn.outlets.items;
   grown : IsPrefix l.fn.intake.stream l.intake.stream;
-  none : l.made.items ≡ [];
+  left : HasNoneLeft l.intake.stream l.making;
+  spares : l.making.spares ≡ l.fn.making.spares;
   next : (goal.iterator-loop g).can_next l.iterator';
   finite : (goal.iterator-loop g).is_finite l.iterator';
 }

@@ -8,9 +8,9 @@ use Rattle.gl_engine.proofs.pull_and_ship.round.Goals as goal
 
 pub turn-requires-clause-begins : goal.turn-requires-clause-begins
 turn-requires-clause-begins g c = record {
-  none = c.loop-number.invariant.none;
+  left = c.loop-number.invariant.left;
   shards = shards_still c.args.outlets.now.items c.loop-number.outlets.items c.loop-number.invariant.feeds c.requires.begins.shards;
-  kept = rw (c.loop-number.invariant.limits) c.loop-number.invariant.keeps;
+  kept = rw (c.loop-number.invariant.limits, c.loop-number.invariant.spares) c.loop-number.invariant.keeps;
 }
 
 pub returns-in_err-pulled : goal.returns-in_err-pulled
@@ -24,20 +24,22 @@ returns-in_err-pulled g c =
         feeds = c.turn.ensures.goes_on.feeds ∙ c.loop-number.invariant.feeds;
         grown = prefix_on _ _ _ c.loop-number.invariant.grown c.turn.ensures.goes_on.grown;
         blamed = search rules;
-        stopped = rw (p.1, p.2) (stops_since _ _ _ _ c.loop-number.invariant.grown c.in_err-pulled.field-0.0 c.in_err-pulled.ensures.goes_on.stopped);
+        stopped = rw (p.1, p.2) (stops_since _ _ _ _ _ c.loop-number.invariant.grown c.in_err-pulled.field-0.0 (rw (c.loop-number.invariant.spares) at c.in_err-pulled.ensures.goes_on.stopped));
       };
       moved = rw p.1 tt;
-      none = rw p.1 tt;
+      left = rw p.1 tt;
+      spares = c.turn.ensures.spares ∙ c.loop-number.invariant.spares;
     }
 
 pub loop-number-preserved : goal.loop-number-preserved
 loop-number-preserved g c = record {
-  keeps = rw (c.loop-number.invariant.limits) at c.in_ok-pulled.ensures.goes_on.keeps;
+  keeps = rw (c.loop-number.invariant.limits, c.loop-number.invariant.spares) at c.in_ok-pulled.ensures.goes_on.keeps;
   limits = c.turn.ensures.goes_on.limits ∙ c.loop-number.invariant.limits;
   lanes = c.turn.ensures.goes_on.lanes ∙ c.loop-number.invariant.lanes;
   feeds = c.turn.ensures.goes_on.feeds ∙ c.loop-number.invariant.feeds;
   grown = prefix_on _ _ _ c.loop-number.invariant.grown c.turn.ensures.goes_on.grown;
-  none = c.in_ok-pulled.ensures.none;
+  left = c.in_ok-pulled.ensures.left;
+  spares = c.turn.ensures.spares ∙ c.loop-number.invariant.spares;
   moved = elim c.if-moved.branch [
     | then-moved w ↦ subst (HasMoved c.args.intake.now.stream c.turn.new.intake.stream) (sym w.moved-is) (moved_first _ _ _ c.loop-number.moved c.in_ok-pulled.pulled c.loop-number.invariant.moved c.in_ok-pulled.ensures.moved w.if-moved.true)
     | else-moved w ↦ subst (HasMoved c.args.intake.now.stream c.turn.new.intake.stream) (sym w.moved-is) (moved_then _ _ _ c.loop-number.moved c.in_ok-pulled.pulled c.loop-number.invariant.moved c.in_ok-pulled.ensures.moved w.if-moved.false)

@@ -1,6 +1,5 @@
-use Rattle.std.proofs.Common.{length, rules, ap, ◌∙◌}
+use Rattle.std.proofs.Common.{◌++◌, rules}
 use Rattle.std.proofs.lemmas.Result.{err_from_is_err_and}
-use Rattle.gl_engine.specs.Dealing.{dealt}
 use Rattle.gl_engine.proofs.Handing.{added_all, blamed_gone, blamed_pull, pulled_prefix, stops_gone, stops_pull}
 use Rattle.gl_engine.proofs.pull_and_ship.turn.Goals as goal
 
@@ -17,11 +16,12 @@ returns-in_err-pulled g c =
         blamed = rw (p.1, p.2)
             (blamed_pull c.args.thread c.args.intake.now.limits c.pull_some.new.inputs.items c.pull_some.new.intake.stream c.in_err-pulled.field-0.0 c.in_err-pulled.ensures.pulls_on.blamed);
         stopped = rw (p.1, p.2)
-            (stops_pull c.args.thread c.args.intake.now.limits c.pull_some.new.inputs.items c.args.intake.now.stream c.pull_some.new.intake.stream c.args.outlets.now.items c.in_err-pulled.field-0.0
-            c.in_err-pulled.ensures.pulls_on.blamed c.pull_some.ensures.pulls_on.grown c.requires.begins.kept.shipped);
+            (stops_pull c.args.thread c.args.intake.now.limits c.pull_some.new.inputs.items c.args.making.now.spares c.args.intake.now.stream c.pull_some.new.intake.stream c.args.outlets.now.items c.in_err-pulled.field-0.0
+            c.in_err-pulled.ensures.pulls_on.blamed c.pull_some.ensures.pulls_on.grown c.requires.begins.kept.due c.requires.begins.kept.are_due c.requires.begins.kept.shipped);
       };
       moved = rw p.1 tt;
-      none = rw p.1 tt;
+      left = rw p.1 tt;
+      spares = c.pull_some.ensures.pulls_on.added.spares;
     }
 
 pub returns-in_err-ship : goal.returns-in_err-ship
@@ -38,21 +38,25 @@ returns-in_err-ship g c =
             (blamed_gone c.args.intake.now.limits c.pull_some.new.inputs.items c.pull_some.new.intake.stream _ _ c.in_err-ship.field-0.0
             (c.in_err-ship.ensures.stopped _ c.requires.begins.kept.shipped));
         stopped = rw (p.1, p.2)
-            (stops_gone c.args.intake.now.stream c.pull_some.new.intake.stream _ _ c.in_err-ship.field-0.0 (added_all _ _ _ _ c.requires.begins.none c.pull_some.ensures.pulls_on.added)
+            (stops_gone c.args.making.now.spares c.args.intake.now.stream c.pull_some.new.intake.stream _ _ c.in_err-ship.field-0.0 (added_all _ _ _ _ c.requires.begins.kept.due c.requires.begins.left.none c.requires.begins.kept.are_due c.pull_some.ensures.pulls_on.added)
             (c.in_err-ship.ensures.stopped _ c.requires.begins.kept.shipped));
       };
       moved = rw p.1 tt;
-      none = rw p.1 tt;
+      left = rw p.1 tt;
+      spares = c.pull_some.ensures.pulls_on.added.spares;
     }
 
 pub returns : goal.returns
 returns g c =
-    let all = added_all _ _ _ _ c.requires.begins.none c.pull_some.ensures.pulls_on.added in
+    let due = c.requires.begins.kept.due in
+    let added = c.pull_some.ensures.pulls_on.added in
     record {
       goes_on = record {
         keeps = record {
           collector = c.pull_some.ensures.pulls_on.keeps;
-          shipped = c.in_ok-ship.ensures.ships.shipped _ c.requires.begins.kept.shipped ∙ ap (dealt (length c.ship.new.outlets.items)) all;
+          due = due ++ c.pull_some.new.making.made.items;
+          are_due = added_all _ _ _ _ due c.requires.begins.left.none c.requires.begins.kept.are_due added;
+          shipped = c.in_ok-ship.ensures.ships.shipped _ c.requires.begins.kept.shipped;
         };
         limits = search rules;
         lanes = search rules;
@@ -62,5 +66,6 @@ returns g c =
         stopped = tt;
       };
       moved = search rules;
-      none = search rules;
+      left = record { none = c.in_ok-ship.ensures.none; notes = added.notes };
+      spares = added.spares;
     }

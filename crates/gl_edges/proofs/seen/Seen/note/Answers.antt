@@ -9,8 +9,8 @@ pub returns-clause-known : goal.returns-clause-known
 returns-clause-known c =
     let thread = c.self.inside.thread in
     let leads = rw c.in-Some.is at c.in_ok-parent.ensures.leads in
-    let of_thread : thread ≡ c.args.tracker.now.thread = grind (arith, c.number.ensures, c.number-2.ensures, c.if-number.false) in
-    let edges_are = edges_now_inside c.args.tracker.now c.args.wanted c.args.mode thread c.entries-entries.result.now c.segment.result of_thread c.entries-entries.ensures c.segment.ensures in
+    let of_thread : thread ≡ c.args.thread = grind (arith, c.number.ensures, c.number-2.ensures, c.if-number.false) in
+    let edges_are = edges_now_inside (record { thread = c.args.thread; state = c.args.state.now }) c.args.wanted c.args.mode thread c.entries-entries.result.now c.segment.result of_thread c.entries-entries.ensures c.segment.ensures in
     IfOk-weaker c.note.result _ _
     (λ known said is_known edge there.
     subst (λ edges. Contains edges edge) (c.in_ok-parent.ensures.noted thread ∙ c.self.view_is)
@@ -21,11 +21,11 @@ pub returns-clause-noted : goal.returns-clause-noted
 returns-clause-noted c =
     let thread = c.self.inside.thread in
     let leads = rw c.in-Some.is at c.in_ok-parent.ensures.leads in
-    let of_thread : thread ≡ c.args.tracker.now.thread = grind (arith, c.number.ensures, c.number-2.ensures, c.if-number.false) in
-    let edges_are = edges_now_inside c.args.tracker.now c.args.wanted c.args.mode thread c.entries-entries.result.now c.segment.result of_thread c.entries-entries.ensures c.segment.ensures in
+    let of_thread : thread ≡ c.args.thread = grind (arith, c.number.ensures, c.number-2.ensures, c.if-number.false) in
+    let edges_are = edges_now_inside (record { thread = c.args.thread; state = c.args.state.now }) c.args.wanted c.args.mode thread c.entries-entries.result.now c.segment.result of_thread c.entries-entries.ensures c.segment.ensures in
     on_ok_weaker c.note.result
     (λ said edge there.
-    subst (λ edges. Contains edges edge ⊎ Contains (edges_now c.args.tracker.now c.args.wanted c.args.mode) edge) (c.in_ok-parent.ensures.noted thread ∙ c.self.view_is)
+    subst (λ edges. Contains edges edge ⊎ Contains (edges_now c.args.thread c.args.state.now c.args.wanted c.args.mode) edge) (c.in_ok-parent.ensures.noted thread ∙ c.self.view_is)
     (subst (λ edges. Contains (noted thread c.node_of.new.self) edge ⊎ Contains edges edge) edges_are
     (said thread (map opened_of c.entries-entries.result.now) leads edge there)))
     c.note.ensures.noted

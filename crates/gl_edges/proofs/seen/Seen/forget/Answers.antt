@@ -1,7 +1,7 @@
 use Rattle.std.proofs.Common.{ap, ◌∙◌}
 use Rattle.gl_edges.specs.bodies.Seen.{noted}
 use Rattle.gl_edges.proofs.Ways.{noted_none}
-use Rattle.gl_edges.proofs.seen.Seen.begin.Goals as goal
+use Rattle.gl_edges.proofs.seen.Seen.forget.Goals as goal
 
 pub returns : goal.returns
-returns c = ap (noted c.args.thread) c.clear.ensures ∙ noted_none c.args.thread _
+returns c = ap (noted c.self.inside.thread) c.clear.ensures ∙ noted_none c.self.inside.thread _
