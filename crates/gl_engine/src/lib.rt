@@ -23,8 +23,8 @@
 //! let report = settled.report_alone(&query)?;                 // of all that was recorded
 //! ```
 //!
-//! With shards, workers and a collector that runs in a thread of its own, [`Collector::run`],
-//! [`Gathered::settle`] and [`Settled::report`] do the same.
+//! With shards, workers and a collector that runs in a thread of its own, [`Collector::run`] or
+//! [`Collector::run_without_repeats`], [`Gathered::settle`] and [`Settled::report`] do the same.
 //!
 //! [`Recorder::record`], [`Recorder::close`] and [`Collector::pull`] never wait for another thread: a
 //! full lane hands the event or the recorder back, and an empty one answers [`Pulled::Empty`]. Only
