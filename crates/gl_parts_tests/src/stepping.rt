@@ -5,7 +5,8 @@ ghost use Rattle.gl_event.specs.Lawful.{IsLawful};
 ghost use Rattle.gl_edges.specs.Edges.{edges_of_list};
 
 use gl_edges::{Acquires, Edge, Sample, Tracker};
-use gl_event::{Event, Memory, ThreadId, ThreadState};
+use gl_event::{Event, Limits, Memory, ThreadId};
+use gl_recorder::Taker;
 use std::alloc::Global;
 
 /// The edges of the thread's events, one event after the other; an edge stands there as often as it is
@@ -27,19 +28,17 @@ pub fn stepped(
     Ok(found)
 }
 
-/// The edges of the thread's events, one event after the other, but for those of acquires that it made
+/// The edges of the events of thread 0, one event after the other, but for those of acquires that it made
 /// before. Err where memory was refused.
-pub fn unrepeated(
-    alloc: Global,
-    thread: ThreadId,
-    list: &[Event],
-) -> Result<Vec<(Edge, Sample)>, Memory> {
-    let mut state = ThreadState::new();
+pub fn unrepeated(alloc: Global, list: &[Event]) -> Result<Vec<(Edge, Sample)>, Memory> {
+    let thread = ThreadId::new(0);
+    let limits = Limits::greatest();
+    let mut taker = Taker::new(thread, &limits);
     let mut acquires = Acquires::new(alloc, thread);
     let mut found = Vec::new(alloc);
     for event in list {
-        acquires.add_new_edges(alloc, thread, &state, event, &mut found)?;
-        let _ = state.take(*event);
+        acquires.add_new_edges(alloc, thread, taker.state(), event, &mut found)?;
+        let _ = taker.take(*event);
     }
     Ok(found)
 }

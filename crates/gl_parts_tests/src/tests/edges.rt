@@ -404,7 +404,7 @@ fn is_unrepeated(alloc: Global, lists: Lists, count: usize, wants: &[Want]) -> b
     let Some(list) = lists.first() else {
         return false;
     };
-    match unrepeated(alloc, ThreadId::new(0), list) {
+    match unrepeated(alloc, list) {
         Ok(pairs) => ends_with(&pairs, count, wants),
         Err(_) => false,
     }
