@@ -18,11 +18,11 @@ returns g c =
     record {
       run =
           c.join_threads.ensures.run (length c.args.session.outlets.items) (as_long _ _ c.start_threads.new.workers.items c.args.session.outlets.items feeds)
-          (λ none. feeds ∙ sym ((c.run-gathered.ensures.whole none).feeds));
-      threads = c.join_threads.ensures.threads (length c.args.lists.now) (ap (λ (b : Bounds). b.threads) c.run-gathered.ensures.left.limits ∙ c.requires.ready.threads_are);
+          (λ none. feeds ∙ sym ((c.run_without_repeats-gathered.ensures.whole none).feeds));
+      threads = c.join_threads.ensures.threads (length c.args.lists.now) (ap (λ (b : Bounds). b.threads) c.run_without_repeats-gathered.ensures.left.limits ∙ c.requires.ready.threads_are);
       receipts =
           c.join_threads.ensures.receipts c.args.session.collector (lists_of c.args.lists.now)
-          (sym (roster_same c.run-gathered.result c.args.session.collector c.run-gathered.ensures.left.session c.run-gathered.ensures.left.limits c.run-gathered.ensures.left.lanes))
+          (sym (roster_same c.run_without_repeats-gathered.result c.args.session.collector c.run_without_repeats-gathered.ensures.left.session c.run_without_repeats-gathered.ensures.left.limits c.run_without_repeats-gathered.ensures.left.lanes))
           (c.if-not-start_threads.ensures.lists refl) c.requires.ready.no_receipt;
       fault = c.join_threads.ensures.fault;
     }
