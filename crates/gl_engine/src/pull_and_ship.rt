@@ -27,6 +27,10 @@ use std::sync::Wait;
 // finds several at once.
 const BURST: u32 = 64;
 
+// The most turns in a row of a lane that still has notes. A collector of a thousand lanes, of which a few have notes at a
+// time, would else look at all of them for each few notes.
+const TURNS: u32 = 8;
+
 // Ships an edge to its shard, or answers that shard, whose worker is gone.
 fn ship_one<R: Wait>(
     rt: &R,
@@ -152,7 +156,33 @@ fn turn<R: Wait>(
     Ok(pulled)
 }
 
-// A turn of each thread, all by way of this empty list. Whether a note was pulled.
+// Turns of the thread, as long as its lane has notes, and no more than some. Whether a note was pulled.
+fn turns<R: Wait>(
+    rt: &R,
+    alloc: Global,
+    thread: ThreadId,
+    inputs: &mut Vec<LaneInput>,
+    intake: &mut Intake,
+    making: &mut Making,
+    outlets: &mut Vec<Outlet>,
+) -> Result<bool, RunFault>
+    requires known { thread < intake.old.limits.threads }
+    requires begins { CanTakeTurns intake.old inputs.old.items making.old outlets.old.items }
+    ensures { HasTakenTurns intake.old intake.new inputs.old.items inputs.new.items making.old
+        making.new outlets.old.items outlets.new.items result }
+{
+    let mut moved = false;
+    for _ in 0..TURNS {
+        let pulled = turn(rt, alloc, thread, inputs, intake, making, outlets)?;
+        if !pulled {
+            return Ok(moved);
+        }
+        moved = true;
+    }
+    Ok(moved)
+}
+
+// Turns of each thread, all by way of this empty list. Whether a note was pulled.
 fn round<R: Wait>(
     rt: &R,
     alloc: Global,
@@ -170,7 +200,7 @@ fn round<R: Wait>(
     let mut moved = false;
     for number in 0..threads {
         let thread = ThreadId::new(number);
-        let pulled = turn(rt, alloc, thread, inputs, intake, making, outlets)?;
+        let pulled = turns(rt, alloc, thread, inputs, intake, making, outlets)?;
         moved = moved || pulled;
     }
     Ok(moved)
