@@ -8,6 +8,8 @@
 //! which are soon found, and takes no more than some steps for each edge. Where it isn't through by
 //! then, edges are left out with about as much effort, and the search goes on at the root where it
 //! stood, among those that stay, with several times the steps: a round. What was found stays, since what is left out is in no cycle.
+//! They are left out in the component of the lock-order graph in which the search stands, or in all but the greatest ones together:
+//! others may be such that a plain search is through with them at once. Each has its turn once the search stands there.
 //!
 //! From the second round on it is asked of each edge how long a cycle with it can be: in some parts of the lock-order graph none may be longer
 //! than a few edges.
@@ -45,6 +47,10 @@ const NEAR: usize = 8;
 
 // How many steps the round has at most that only a search has which is near its end.
 const STEPS_NEAR: usize = 64_000_000;
+
+// How often a search goes on at most before its last stage: twice for each part of the graph in which edges are left out by itself, and a few
+// times more.
+const TURNS: usize = 20;
 
 // How many steps a round has at most where there are several threads.
 const STEPS_ALONE: usize = 32_000_000;
@@ -124,11 +130,11 @@ fn search_on(
     search.go_on(alloc, effort, from, found)
 }
 
-// For each edge how many edges a cycle with it has at most, in a round. The first one doesn't ask: most searches end there.
+// For each edge how many edges a cycle with it has at most, in a turn. The first one doesn't ask: most searches end there.
 fn limits_in(
     alloc: Global,
     sought: &Sought<'_>,
-    round: usize,
+    turn: usize,
     kept: &[bool],
 ) -> Result<Option<Vec<usize>>, Memory>
     requires some { 0 < sought.now.len }
@@ -136,7 +142,7 @@ fn limits_in(
     ensures { IfOk result
         (λ limits. IfSome limits (λ limits. HasLimits sought.now limits.items)) }
 {
-    if round == 0 {
+    if turn == 0 {
         return Ok(None);
     }
     let limits = sought.limits_by_edge(alloc, kept)?;
@@ -148,8 +154,19 @@ fn is_near(found: usize, cap: usize) -> bool {
     found >= NEAR && found >= cap / NEAR
 }
 
-// Searches in rounds, each of no more than so many steps but the first, and leaves edges out between them, where the search isn't
-// near its end. One that wouldn't have more steps than the one before is passed over. The root at which the search stands then.
+// Whether edges were left out already in the part of the graph in which the edge at a position lies.
+fn is_left_out(times: &[usize], position: usize) -> bool {
+    match times.get(position) {
+        Some(&count) => count > 0,
+        None => true,
+    }
+}
+
+// Searches in rounds, each of no more than so many steps but the first. Where the search stands in a part of the graph in which none were left
+// out, edges are left out there, and it goes on with as many steps as the first round has: another part may be one that a plain
+// search goes through at once, and then it is left as it is, or one in which it stands soon. Where they were left out, and where it is near
+// its end, it has the steps of one round more. A round that wouldn't have more steps than the one before is passed over. The root at which
+// the search stands then.
 fn search_in_rounds(
     alloc: Global,
     sought: &Sought<'_>,
@@ -166,8 +183,10 @@ fn search_in_rounds(
     ensures found { IfOk result
         (λ to. HasFound sought.now cap to (cycles_in found.new.items)) }
 {
+    let mut times: Vec<usize> = vec![in alloc; 0; sought.table.len()]?;
     let mut root = 0;
-    for round in 0..=LAST_NEAR {
+    let mut round: usize = 0;
+    for turn in 0..TURNS {
         let steps = steps_of(round, sought.table.len());
         root = search_on(
             alloc,
@@ -175,16 +194,21 @@ fn search_in_rounds(
             cap,
             steps_within(round, steps, most),
             kept,
-            limits_in(alloc, sought, round, kept)?,
+            limits_in(alloc, sought, turn, kept)?,
             root,
             found,
         )?;
         let near = is_near(found.len(), cap);
-        if root >= sought.table.len() || most <= steps || (round == LAST && !near) {
+        let goes_on = near || is_left_out(&times, root);
+        let last = if near { LAST_NEAR } else { LAST };
+        if root >= sought.table.len() || most <= steps || (goes_on && round >= last) {
             return Ok(root);
         }
-        if round < LAST && !near {
-            sought.leave_out_in_turn(alloc, effort_of(steps), kept)?;
+        if goes_on {
+            round = round.saturating_add(1);
+        } else {
+            sought.leave_out_around(alloc, effort_of(steps), root, &mut times, kept)?;
+            round = 0;
         }
     }
     Ok(root)

@@ -3,7 +3,7 @@
 //! A program runs the same code over and over, and an acquire of the same lock, with the same locks held, in
 //! the same modes and segments, makes the same edges. Who keeps each edge with its least sample needs them
 //! once: those that come later are of later places.
-ghost use Rattle.std.specs.Prelude.{◌≡◌, [], IsTrue, IfOk, OnOk, OnErr};
+ghost use Rattle.std.specs.Prelude.{◌≡◌, ◌≢◌, [], IsTrue, IfOk, OnOk, OnErr};
 ghost use Rattle.gl_edges.specs.Edges.{edges_after};
 ghost use Rattle.gl_edges.specs.Known.{AreAddedUnlessKnown, AreKnown, AreLearned};
 ghost use Rattle.gl_edges.specs.Tracking.{ForEachStanding};
@@ -57,7 +57,7 @@ impl Acquires {
     /// Adds the edges that the event would make as the next one of the thread of which this is known,
     /// ascending, to those made, as [`add_next_edges`](crate::add_next_edges) does; or none, where the thread
     /// made the same acquire before, as far as that is known. Where there is no memory those made are as they
-    /// were, and all acquires are forgotten.
+    /// were, and all acquires are forgotten. Where the event makes no edge no memory is taken.
     ///
     /// An acquire takes a step for each lock that is held, and one that isn't known a step for each pair of
     /// them. What is kept is 64 bytes for each lock inside others, no more than two of these for each edge that
@@ -78,6 +78,8 @@ impl Acquires {
             (λ es. OnOk result
             (AreLearned self.old (edges_after thread es event.now) self.new)) }
         ensures unchanged { OnErr result (made.new.items ≡ made.old.items) }
+        ensures room { ForEachStanding state.now
+            (λ es. OnErr result (edges_after thread es event.now ≢ [])) }
         ensures forgotten { OnErr result (self.new ≡ []) }
     {
         let before = made.len();
@@ -111,6 +113,8 @@ impl Acquires {
             (λ es. OnOk result
             (AreLearned self.old (edges_after thread es event.now) self.new)) }
         ensures unchanged { OnErr result (made.new.items ≡ made.old.items) }
+        ensures room { ForEachStanding state.now
+            (λ es. OnErr result (edges_after thread es event.now ≢ [])) }
     {
         if self.note(thread, state, event)? {
             return Ok(());
@@ -128,6 +132,8 @@ impl Acquires {
         ensures learned { ForEachStanding state.now
             (λ es. OnOk result
             (AreLearned self.old (edges_after thread es event.now) self.new)) }
+        ensures room { ForEachStanding state.now
+            (λ es. OnErr result (edges_after thread es event.now ≢ [])) }
     {
         let Some(wanted) = event.wanted() else {
             return Ok(false);

@@ -13,6 +13,7 @@ ghost use Rattle.gl_edges.specs.bodies.Batches.{pair_cmp};
 
 use crate::edge::{Edge, Sample};
 use crate::list::EdgeList;
+use crate::table::Table;
 use gl_event::Memory;
 use std::alloc::Global;
 use std::marker::Model;
@@ -20,10 +21,10 @@ use std::marker::Model;
 // So many pairs more than twice those that were left the last time come before they are sorted.
 const SPARE: usize = 16_384;
 
-/// Edges, each with a sample. Contracts see the ascending list of these edges, each once, with its least
-/// sample.
+/// Edges that come in any order, each with a sample, and maybe more than once. Contracts see the ascending list of
+/// these edges, each once, with its least sample.
 #[derive(Drop)]
-pub(crate) struct Batch {
+pub struct Batch {
     // Those of the lists that ended, which were sorted list by list.
     ended: Vec<(Edge, Sample)>,
     // Those of the current list, in the order in which they came.
@@ -49,7 +50,7 @@ impl Model for Batch {
 
 impl Batch {
     /// No edges. It takes no memory.
-    pub(crate) fn new(alloc: Global) -> Batch
+    pub fn new(alloc: Global) -> Batch
         ensures { result ≡ [] }
     {
         Batch {
@@ -64,6 +65,15 @@ impl Batch {
     /// How many pairs there are: no more than twice the edges of each list, and some 16,000.
     pub(crate) fn len(&self) -> usize {
         self.ended.len().saturating_add(self.pairs.len())
+    }
+
+    /// Puts all edges of the table in, each with its sample. Where there is no memory for them some may be in, or none.
+    pub fn absorb(&mut self, alloc: Global, table: Table) -> Result<(), Memory>
+        ensures { OnOk result (self.new ≡ once (self.old ++ table)) }
+    {
+        let mut pairs = table.into_list(alloc)?.into_vec();
+        self.pairs.append(&mut pairs)?;
+        Ok(())
     }
 
     /// Puts a copy of the edge in. Where it is there already, the lesser of the two samples stays.
@@ -117,8 +127,8 @@ impl Batch {
         Ok(())
     }
 
-    /// The edges with their samples, ascending. Where the lists that ended came by thread, they ascend already.
-    pub(crate) fn into_list(self) -> Result<EdgeList, Memory>
+    /// The edges with their samples, ascending. What came ascending is merged.
+    pub fn into_list(self) -> Result<EdgeList, Memory>
         ensures { IfOk result (λ l. l ≡ self) }
     {
         let Batch {

@@ -11,7 +11,7 @@
 //! [`add_next_edges`] puts behind those made before. [`Acquires`] do the same, and pass over acquires that the
 //! thread made before. All name an edge by its fields alone; where a thread
 //! makes it twice, the first place stays its sample. A [`Table`] is filled edge by edge in whatever order
-//! they come, and has each once with its least sample. The definitions stand in `specs/Edges.antt`, and
+//! they come, and has each once with its least sample; of several tables a [`Batch`] makes one list. The definitions stand in `specs/Edges.antt`, and
 //! the functions without a body say what holds of them in the words of the events.
 //!
 //! docs/GLOSSARY.md has its words beside those of the field.
@@ -34,6 +34,7 @@ mod table;
 mod tracker;
 
 pub use acquires::Acquires;
+pub use batch::Batch;
 pub use edge::{Edge, Sample};
 pub use gather::edges_of;
 pub use guard_sets::GuardSets;

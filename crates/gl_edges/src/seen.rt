@@ -15,7 +15,7 @@
 //! very many orders, though, which are as many nodes: so there are never more of them than the caller
 //! has room for, and an acquire that isn't noted has its edges made again. What is noted isn't always
 //! found again, since a node's number is only guessed: that costs the same.
-ghost use Rattle.std.specs.Prelude.{◌≡◌, ◌⊎◌, ◌+◌, ℕ, List, [], ◌∷◌, ◌++◌, map, length, Contains, IsTrue, IfOk, IfSome, OnOk};
+ghost use Rattle.std.specs.Prelude.{◌≡◌, ◌≢◌, ◌⊎◌, ◌+◌, ℕ, List, [], ◌∷◌, ◌++◌, map, length, Contains, IsTrue, IfOk, IfSome, OnOk, OnErr};
 ghost use Rattle.gl_edges.specs.bodies.Seen.{edges_inside, edges_now, noted, opened_of, with_node, HasNotedAlike, IsEndOf, IsNode, LeadsTo};
 ghost use Rattle.gl_edges.specs.declared.edge.Edge.{Edge};
 ghost use Rattle.gl_edges.specs.declared.seen.Opened.{Opened};
@@ -388,6 +388,7 @@ impl Seen {
         ensures noted { OnOk result
             ((edge : Edge) → Contains self.new edge
             → Contains self.old edge ⊎ Contains (edges_now thread state.now wanted mode) edge) }
+        ensures some { OnErr result (state.now.held ≢ []) }
     {
         if thread.number() != self.thread.number() {
             return Ok(false);

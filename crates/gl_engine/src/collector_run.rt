@@ -111,8 +111,8 @@ impl Collector {
     ///   and no feed is kept.
     ///
     /// It waits for the recorders and for the workers: it returns only if every recorder closes, and as
-    /// long as a worker's feed is full it waits for that. It looks at the lanes in turn, up to 64 notes of each,
-    /// and after a round in which no lane had a note it spins or sleeps for a moment. The list for the
+    /// long as a worker's feed is full it waits for that. It looks at the lanes in turn, at each for up to eight turns
+    /// of 64 notes, and after a round in which no lane had a note it spins or sleeps for a moment. The list for the
     /// [`Sent`]s is made before the first pull, and so are the edges of the pulls before: they are found once
     /// more in the notes, which takes as long as those pulls did.
     pub fn run<R: Wait>(self, rt: &R, outlets: Vec<Outlet>) -> Gathered

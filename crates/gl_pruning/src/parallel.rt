@@ -236,7 +236,6 @@ fn leave_out_apart_parallel(
 {
     for number in 0..shares.count {
         let share = sought.share(alloc, shares, number)?;
-        let effort = shares.effort_of(effort, share.positions.len());
         let stay = kept_of_share_parallel(
             rt,
             alloc,

@@ -83,7 +83,7 @@ impl Sought<'_> {
     }
 
     /// Leaves out edges for all reasons, with so much effort for each; where they lie in several components of the lock-order graph, in
-    /// the greatest of these by themselves, which share the effort. Where a reason left out some, it is gone through once more,
+    /// the greatest of these by themselves, each with so much. Where a reason left out some, it is gone through once more,
     /// but for all the effort.
     ///
     /// Err where memory was refused.

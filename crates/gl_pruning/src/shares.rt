@@ -1,7 +1,7 @@
 //! Parts of the lock-order graph by themselves.
 //!
 //! All edges of a cycle lie in one component of the lock-order graph. So edges may be left out among those of some components as if there
-//! were no others: the epochs of the run, how long a cycle can be and how much effort there is are then those of a part of the program that
+//! were no others: the epochs of the run and how long a cycle can be are then those of a part of the program that
 //! knows nothing of the others. The greatest components are looked at one by one, and all others together.
 //!
 //! Which components these are is not proved; it is [checked](crate::labels).
@@ -15,7 +15,6 @@ ghost use Rattle.gl_pruning.specs.bodies.Shares.{share_in, AreShares, HasEdgesBe
 use crate::labels::{labels_of, none_goes_back};
 use crate::no_way::label;
 use crate::numbers::{Ends, Numbers};
-use crate::reasons::{ALL_EFFORT, count_set};
 use crate::sought::Sought;
 use gl_edges::{Edge, Sample};
 use gl_event::Memory;
@@ -56,13 +55,12 @@ impl Shares {
         label(&self.by_component, label(&self.labels, lock))
     }
 
-    /// How much effort a share of so many edges has of so much for all of them: as much as each other one, or as belongs to its edges.
-    pub(crate) fn effort_of(&self, effort: usize, edges: usize) -> usize {
-        if effort == ALL_EFFORT {
-            return ALL_EFFORT;
+    // The share of the lock that the edge at a position holds.
+    fn share_of(&self, position: usize) -> usize {
+        match self.ends.get(position) {
+            Some(ends) => self.share(ends.held),
+            None => 0,
         }
-        let of_edge = effort / count_set(&self.kept).max(1);
-        (effort / self.count.max(1)).max(of_edge.saturating_mul(edges))
     }
 }
 
@@ -168,7 +166,7 @@ impl Sought<'_> {
         }
     }
 
-    /// Leaves out edges for all reasons, in each share by itself.
+    /// Leaves out edges for all reasons, in each share by itself, with so much effort for each reason.
     pub(crate) fn leave_out_apart(
         &self,
         alloc: Global,
@@ -183,11 +181,54 @@ impl Sought<'_> {
     {
         for number in 0..shares.count {
             let share = self.share(alloc, shares, number)?;
-            let effort = shares.effort_of(effort, share.positions.len());
             let stay = kept_of_share(alloc, &share.table, self.order, self.mode, self.len, effort)?;
             self.leave_out_of_share(&share, &stay, kept);
         }
         Ok(())
+    }
+
+    /// Leaves out edges for all reasons, with so much effort for each, among those alone that share a component of the lock-order
+    /// graph with the edge at a position; among all where there is one component. The greatest components are told apart, and all
+    /// others count as one. For each edge of these one time more is noted, so that it is known how often each was looked at.
+    ///
+    /// Err where memory was refused.
+    pub fn leave_out_around(
+        &self,
+        alloc: Global,
+        effort: usize,
+        position: usize,
+        times: &mut Vec<usize>,
+        kept: &mut Vec<bool>,
+    ) -> Result<(), Memory>
+        requires some { 0 < self.now.len }
+        requires kept { KeepsSought self.now kept.old.items }
+        ensures { OnOk result (GoesOnSeeking self.now kept.old.items kept.new.items) }
+    {
+        let Some(shares) = self.shares(alloc, kept)? else {
+            note_all(times);
+            return self.leave_out_by_reasons(alloc, effort, kept);
+        };
+        let share = self.share(alloc, &shares, shares.share_of(position))?;
+        note_each(times, &share.positions);
+        let stay = kept_of_share(alloc, &share.table, self.order, self.mode, self.len, effort)?;
+        self.leave_out_of_share(&share, &stay, kept);
+        Ok(())
+    }
+}
+
+// Notes one time more for each edge.
+fn note_all(times: &mut Vec<usize>) {
+    for time in times.iter_mut() {
+        *time = time.saturating_add(1);
+    }
+}
+
+// Notes one time more for the edges at these positions.
+fn note_each(times: &mut Vec<usize>, positions: &[usize]) {
+    for &position in positions {
+        if let Some(time) = times.get_mut(position) {
+            *time = time.saturating_add(1);
+        }
     }
 }
 

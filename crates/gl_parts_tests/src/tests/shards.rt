@@ -216,3 +216,51 @@ fn merges(rt: HostRuntime) {
         expect(&rt, is_merged(rt.alloc(), case), case.name, at);
     }
 }
+
+// How many edges each of the large tables has.
+const MANY: u32 = 10_000;
+
+// The edges from so many locks, a step apart, each at this place.
+fn many(alloc: Global, from: u32, step: u32, place: u32) -> Result<Table, Memory> {
+    let mut table = Table::new(alloc);
+    let mut lock = from;
+    for _ in 0..MANY {
+        table.insert(edge(alloc, (0, lock, 70_000))?, at(place))?;
+        lock = lock.saturating_add(step);
+    }
+    Ok(table)
+}
+
+fn large_tables(alloc: Global) -> Result<Vec<Table>, Memory> {
+    let mut made = Vec::new(alloc);
+    made.push(many(alloc, 0, 2, 5)?)?;
+    made.push(many(alloc, 1, 2, 6)?)?;
+    made.push(many(alloc, 0, 3, 4)?)?;
+    Ok(made)
+}
+
+// How many edges these tables have together, and the first ones.
+fn counts(alloc: Global, tables: Vec<Table>, count: usize, wants: &[(u32, u32)]) -> bool {
+    match merge(alloc, tables) {
+        Ok(list) => {
+            let entries = list.entries();
+            entries.len() == count
+                && wants.len() <= count
+                && are_wanted(&entries[..wants.len()], wants)
+        }
+        Err(_) => false,
+    }
+}
+
+// Even locks and odd ones, and each third one: of these 6,667 are among the first 20,000.
+#[test]
+fn large_merges(rt: HostRuntime) {
+    match large_tables(rt.alloc()) {
+        Ok(tables) => {
+            let wants = &[(0, 4), (1, 6), (2, 5), (3, 4), (4, 5), (5, 6)];
+            let is_merged = counts(rt.alloc(), tables, 23_333, wants);
+            expect(&rt, is_merged, "large tables", 0);
+        }
+        Err(_) => expect(&rt, false, "memory for large tables", 0),
+    }
+}

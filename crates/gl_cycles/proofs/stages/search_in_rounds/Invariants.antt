@@ -6,7 +6,7 @@ use Rattle.gl_cycles.specs.bodies.Searching.{HasFound}
 use Rattle.gl_cycles.proofs.stages.search_in_rounds.Given as goal
 
 -- only edges that are in no cycle are left out, and the cycles that begin with edges before the root were found
-abbrev pub invariant-loop-round : goal.invariant-loop-round
-invariant-loop-round l =
+abbrev pub invariant-loop-turn : goal.invariant-loop-turn
+invariant-loop-turn l =
     KeepsCycles (is_before l.sought.order.now) l.sought.mode l.sought.len (edges_of_table l.sought.table.now) l.kept.items
     × HasFound l.sought l.cap l.root (map (λ cycle. cycle.items) l.found.items)

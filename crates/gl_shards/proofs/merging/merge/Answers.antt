@@ -18,9 +18,9 @@ loop-table-preserved c =
     let table = c.in-Some.table in
     let rest = all_pairs (into_iter_items c.next.new.self) in
     record {
-      own = rw c.in_ok-all.ensures (once_again (all ++ table));
+      own = rw c.in_ok-absorb.ensures (once_again (all ++ table));
       whole =
-          rw c.in_ok-all.ensures
+          rw c.in_ok-absorb.ensures
           (once_before (all ++ table) rest
           ∙ ap once (append_assoc all table rest)
           ∙ ap (λ tables. once (all ++ all_pairs tables)) (sym c.in-Some.ensures.steps.0)

@@ -1,9 +1,9 @@
 use Rattle.std.proofs.Common.{Bool, subst}
 use Rattle.std.specs.Prelude.{Contains, IsTrue}
-use Rattle.std.proofs.lemmas.Result.{on_ok_weaker, IfOk-weaker}
+use Rattle.std.proofs.lemmas.Result.{on_err_weaker, on_ok_weaker, IfOk-weaker}
 use Rattle.gl_edges.specs.bodies.Seen.{edges_now}
 use Rattle.gl_edges.specs.declared.edge.Edge.{Edge}
-use Rattle.gl_edges.proofs.Gathering.{not_deep}
+use Rattle.gl_edges.proofs.Gathering.{not_deep, wanting_some}
 use Rattle.gl_edges.proofs.Remembering.{acquire_known, acquire_learned}
 use Rattle.gl_edges.proofs.acquires.Acquires.note.Goals as goal
 
@@ -28,3 +28,11 @@ returns-clause-learned c = λ es stands.
     rw c.in-Some.ensures.some
     (acquire_learned c.args.thread es c.args.state.now stands wanted.lock wanted.mode wanted.loc free c.args.self.now c.note.new.self (rw c.self.view_is at said)))
     c.note.ensures.noted
+
+pub returns-clause-room : goal.returns-clause-room
+returns-clause-room c = λ es stands.
+    let free = not_deep c.holds.result _ (c.holds.ensures es stands).1 c.if-holds.false in
+    let wanted = c.in-Some.wanted in
+    on_err_weaker c.note.result
+    (λ some. rw c.in-Some.ensures.some (wanting_some c.args.thread es wanted.lock wanted.mode wanted.loc c.args.state.now.held free stands.held some))
+    c.note.ensures.some
