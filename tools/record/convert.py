@@ -14,6 +14,7 @@ from collections import Counter
 
 from births import threads_by_birth
 from build import built
+from recording import living_thread
 from symbols import Module, demangled, is_wrapper_source, short_function, short_paths, short_variable
 
 LAYOUT_VERSION = 1
@@ -323,10 +324,11 @@ DELETED = " (deleted)"  # behind the name of a file that has none any more
 def deleted_files(pid, image):
     """The files that a process runs and that were deleted or replaced: by the address where each begins in memory a path by which it
     can be read, as long as the process runs. Only the system's administrator may read those of libraries."""
+    thread = living_thread(pid)
     try:
-        with open("/proc/%d/maps" % pid, "rb") as file:
+        with open("/proc/%d/maps" % thread, "rb") as file:
             lines = [line.split(None, 5) for line in os.fsdecode(file.read()).split("\n")]
-        program = os.readlink("/proc/%d/exe" % pid)
+        program = os.readlink("/proc/%d/exe" % thread)
     except OSError:
         return {}
     mapped = [parts for parts in lines if len(parts) == 6]
@@ -335,7 +337,7 @@ def deleted_files(pid, image):
     found = {}
     for area, *_, path in (parts for parts in mapped if parts[5].endswith(DELETED)):
         start, end = (int(address, 16) for address in area.split("-"))
-        found[start] = "/proc/%d/exe" % pid if path == program else "/proc/%d/map_files/%x-%x" % (pid, start, end)
+        found[start] = "/proc/%d/exe" % thread if path == program else "/proc/%d/map_files/%x-%x" % (thread, start, end)
     return found
 
 
