@@ -14,6 +14,7 @@ from collections import Counter
 
 from births import threads_by_birth
 from build import built
+from recording import living_thread
 from symbols import Module, demangled, is_wrapper_source, short_function, short_paths, short_variable
 
 LAYOUT_VERSION = 1
@@ -43,8 +44,9 @@ KIND_AND_SITE = 0 if sys.byteorder == "little" else 1  # which half of a word ha
 HELD_LIMIT = 64
 
 
-# In the mangled name of a class: a lambda's own class, as GCC has it and as Clang may.
-LAMBDA_CLASS = re.compile(r"EUl|E\d+\$_")
+# In the mangled name of the class of what a thread of the C++ library runs: how the first of what the thread was given begins where
+# a word of the object points to it. It is a function, a member's, one in a std::function, or one that std::bind binds.
+FUNCTION_GIVEN = re.compile(r"St5tupleIJ(PF|M|St8functionI|St5_BindI)")
 
 
 class ConvertError(Exception):
@@ -323,10 +325,11 @@ DELETED = " (deleted)"  # behind the name of a file that has none any more
 def deleted_files(pid, image):
     """The files that a process runs and that were deleted or replaced: by the address where each begins in memory a path by which it
     can be read, as long as the process runs. Only the system's administrator may read those of libraries."""
+    thread = living_thread(pid)
     try:
-        with open("/proc/%d/maps" % pid, "rb") as file:
+        with open("/proc/%d/maps" % thread, "rb") as file:
             lines = [line.split(None, 5) for line in os.fsdecode(file.read()).split("\n")]
-        program = os.readlink("/proc/%d/exe" % pid)
+        program = os.readlink("/proc/%d/exe" % thread)
     except OSError:
         return {}
     mapped = [parts for parts in lines if len(parts) == 6]
@@ -335,7 +338,7 @@ def deleted_files(pid, image):
     found = {}
     for area, *_, path in (parts for parts in mapped if parts[5].endswith(DELETED)):
         start, end = (int(address, 16) for address in area.split("-"))
-        found[start] = "/proc/%d/exe" % pid if path == program else "/proc/%d/map_files/%x-%x" % (pid, start, end)
+        found[start] = "/proc/%d/exe" % thread if path == program else "/proc/%d/map_files/%x-%x" % (thread, start, end)
     return found
 
 
@@ -579,11 +582,11 @@ class Names:
 
     def routine_of(self, thread):
         """The symbol of the start routine. A thread of the C++ library's runs an object: a function that it points to,
-        else its class."""
+        else its class. Of an object that has none no word is looked at: behind its end lies what others left."""
         if not any(thread.object):
             return self.symbol_of(thread.routine, thread.when)
         table = self.symbol_of(thread.object[0], thread.when)
-        if not LAMBDA_CLASS.search(table):
+        if FUNCTION_GIVEN.search(table):
             for word in thread.object[1:]:
                 name = self.symbol_of(word, thread.when, begins=True)
                 if name and not name.startswith("_ZT"):
@@ -688,15 +691,27 @@ class Names:
         self.locks[number] = clean("%s%d" % (base, self.count(number, base)))
 
 
+# Of what stands for a function without a name of its own: what the thread was given, in the class that it runs, in what std::async
+# runs, and in a std::function.
+OBJECTS = [
+    re.compile(r"vtable for std::thread::_State_impl<.*?tuple<(.*)> *> *>$"),
+    re.compile(r"std::__future_base::_Async_state_impl<.*?tuple<(.*)> *>, .*>::_M_run\b"),
+    re.compile(r"std::_Function_handler<.*?\), (.*)>::_M_\w+"),
+]
+
+
+def lambda_name(given):
+    match = re.match(r"([\w:]+)(\(.*?\))?( const)?::(\{lambda.*\}|\$_\d+)", given)
+    return match.group(1) + "::lambda" if match else ""
+
+
 def routine_name(symbol, readable):
     """A short name of a start routine; of a lambda, the function that it stands in."""
     name = readable.get(symbol, symbol)
-    prefix = "vtable for std::thread::_State_impl<"
-    if name.startswith(prefix):
-        inner = re.search(r"tuple<(.*)> *> *>$", name)
-        name = inner.group(1) if inner else ""
-        match = re.match(r"([\w:]+)(\(.*?\))?( const)?::(\{lambda.*\}|\$_\d+)", name)
-        return match.group(1) + "::lambda" if match else ""
+    for shape in OBJECTS:
+        match = shape.match(name)
+        if match:
+            return lambda_name(match.group(1))
     if name == symbol and symbol.startswith("_Z"):
         return symbol
     return without_parameters(name)

@@ -4,7 +4,7 @@ import os
 import signal
 import time
 
-from recording import maps_file, names_in_proc
+from recording import living_thread, maps_file, names_in_proc
 
 PR_SET_CHILD_SUBREAPER = 36
 FORWARDED = (signal.SIGINT, signal.SIGTERM, signal.SIGHUP, signal.SIGQUIT, signal.SIGUSR1, signal.SIGUSR2)
@@ -80,7 +80,7 @@ def descendants(strangers=()):
                 fields = status.read().rsplit(b")", 1)[1].split()
         except (OSError, IndexError):
             continue
-        if fields[0] not in (b"Z", b"X"):
+        if fields[0] not in (b"Z", b"X") or living_thread(int(name)):
             children.setdefault(int(fields[1]), []).append(int(name))
     found, waiting = [], [number_in_proc()]
     while waiting:

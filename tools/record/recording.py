@@ -202,10 +202,36 @@ def names_in_proc():
         return []
 
 
+def state_of(path):
+    """The letter by which the kernel tells how the process or thread of this folder in /proc is; empty where it is gone."""
+    try:
+        with open(path + "/stat", "rb") as status:
+            return status.read().rsplit(b")", 1)[1].split()[0]
+    except (OSError, IndexError):
+        return b""
+
+
+def has_ended(path):
+    return state_of(path) in (b"", b"Z", b"X")
+
+
+def living_thread(process):
+    """The number of a thread of a process that hasn't ended; 0 where all have. The first one may have, by pthread_exit, while others
+    run on: /proc then tells under its number neither that the process runs nor what it maps, and under theirs it does.
+    """
+    if not has_ended("/proc/%d" % process):
+        return process
+    try:
+        threads = map(int, os.listdir("/proc/%d/task" % process))
+        return next((thread for thread in threads if not has_ended("/proc/%d/task/%d" % (process, thread))), 0)
+    except OSError:
+        return 0
+
+
 def maps_file(process, token):
     """Whether a process maps a file whose path has these bytes; None where that isn't for us to know."""
     try:
-        with open("/proc/%d/maps" % process, "rb") as maps:
+        with open("/proc/%d/maps" % living_thread(process), "rb") as maps:
             return token in maps.read()
     except PermissionError:
         return None

@@ -110,9 +110,20 @@ static int is_thread_wrapper(const char *rest)
 /* What the C++ library's threads begin with. */
 #define THREAD_ROUTINE "execute_native_thread_routine"
 
+/* What a sanitizer that Clang links into the program has before the functions of the C library: two underscores or
+ * more, and then this. */
+static int is_interceptor_name(const char *symbol)
+{
+    static const char mark[] = "interceptor_";
+    size_t front = strspn(symbol, "_");
+    return front >= 2 && strncmp(symbol + front, mark, sizeof mark - 1) == 0;
+}
+
 static int is_wrapper_name(const char *symbol)
 {
     if ((strncmp(symbol, "_ZL", 3) == 0 && strstr(symbol, "__gthread_")) || strcmp(symbol, THREAD_ROUTINE) == 0)
+        return 1;
+    if (is_interceptor_name(symbol))
         return 1;
     const char *at = symbol;
     if (strncmp(at, "_ZN", 3) == 0)

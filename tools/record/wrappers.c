@@ -293,6 +293,7 @@ EXPORTED void mtx_destroy(mtx_t *lock)
     real.mtx_destroy(lock);
     if (!thread)
         return;
+    lock_let_go(thread, lock);
     lock_forget(lock);
     count_other(thread);
 }

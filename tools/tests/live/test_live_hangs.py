@@ -262,16 +262,21 @@ def place(mark):
     return MARKS["live.c", mark]
 
 
-@pytest.mark.parametrize("what", ["deletes_itself", "hangs"], ids=["deleted", "replaced"])
-def test_program_whose_file_is_gone(what):
+@pytest.mark.parametrize(
+    "what, parent",
+    [(["deletes_itself"], "main"), (["hangs"], "main"), (["first_thread_ends", "1"], "main.1:hangs_on")],
+    ids=["deleted", "replaced", "deleted where the first thread has ended"],
+)
+def test_program_whose_file_is_gone(what, parent):
     """It is read by way of the process, as long as that runs: of another file in its place nothing would be right."""
     shutil.copy("live", "gone")
-    live = Live("./gone", what).is_ready()
-    if what == "hangs":
+    live = Live("./gone", *what).is_ready()
+    if what == ["hangs"]:
         shutil.copy("locks", "other")
         os.replace("other", "gone")
     live.wait_for_words(" hangs: ")
-    wait = "main.1:holds waits for a at %s, which main.2:holds holds" % place("second_of_two")
+    first, second = (parent.split(":")[0] + ".%d:holds" % child for child in (1, 2))
+    wait = "%s waits for a at %s, which %s holds" % (first, place("second_of_two"), second)
     assert " hangs: " + wait in live.says(), live.says()
     live.end(signal.SIGTERM)
 

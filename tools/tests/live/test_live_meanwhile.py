@@ -142,6 +142,15 @@ def test_line_every_so_often():
     live.end(signal.SIGTERM)
 
 
+def test_lines_where_the_first_thread_has_ended():
+    """The process runs on, though /proc tells of that thread alone under its number: each line comes when it is due."""
+    live = Live("./live", "first_thread_ends", options=["--every", "0.3"]).is_ready()
+    live.wait_for_words("1 cycle so far")
+    before = len(lines_of())
+    wait_for(lambda: len(lines_of()) >= before + 3, "three lines")
+    live.end(signal.SIGTERM, 128 + signal.SIGTERM)
+
+
 def test_lines_of_a_thread_that_always_holds_a_lock():
     """They come nearly as often as those of a program that does nothing, and what it repeats takes no room."""
     quiet = Live("./live", "waits", options=["--every", "0.2"], path="quiet.json").is_ready()

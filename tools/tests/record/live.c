@@ -386,6 +386,29 @@ static void deletes_itself(void)
     hangs();
 }
 
+static void *waits_on(void *unused)
+{
+    wait_for_first_to_end();
+    waits();
+    return unused;
+}
+
+static void *hangs_on(void *unused)
+{
+    wait_for_first_to_end();
+    deletes_itself();
+    return unused;
+}
+
+/* A process whose first thread has ended: it waits, or hangs. */
+static void first_thread_ends(void)
+{
+    pthread_t thread;
+    pthread_create(&thread, NULL, number ? hangs_on : waits_on, NULL);
+    number = 0;
+    pthread_exit(NULL);
+}
+
 /* So many threads one after the other, each with its own lock and the next one's. */
 static pthread_mutex_t forks_of[16];
 
@@ -768,7 +791,7 @@ int main(int count, char **arguments)
         const char *name;
         void (*run)(void);
     } programs[] = {
-        {"waits", waits}, {"goes_on", goes_on}, {"comes_later", comes_later}, {"gates", gates}, {"gates_until_told", gates_until_told}, {"churn", churn},
+        {"waits", waits}, {"first_thread_ends", first_thread_ends}, {"goes_on", goes_on}, {"comes_later", comes_later}, {"gates", gates}, {"gates_until_told", gates_until_told}, {"churn", churn},
         {"own_signal", own_signal}, {"forks", forks}, {"repeats", repeats}, {"killed", killed}, {"races", races},
         {"hangs", hangs}, {"holder_ended", holder_ended}, {"owner_died", owner_died}, {"ring", ring}, {"deletes_itself", deletes_itself},
         {"inherits", inherits}, {"joins", joins}, {"joins_in_a_row", joins_in_a_row}, {"ends", ends}, {"child_ends", child_ends},

@@ -907,6 +907,50 @@ static void goes_to_background(void)
     _exit(0);
 }
 
+/* Goes on when the first thread has ended. */
+static void *runs_on(void *unused)
+{
+    wait_for_first_to_end();
+    one_pair();
+    say_ready();
+    fclose(stdout);
+    pause();
+    return unused;
+}
+
+/* The same, until standard input ends. */
+static void *reads_on(void *unused)
+{
+    char byte;
+    wait_for_first_to_end();
+    one_pair();
+    say_ready();
+    fclose(stdout);
+    while (read(0, &byte, 1) > 0)
+        continue;
+    both();
+    return unused;
+}
+
+static void ends_before(void *(*routine)(void *))
+{
+    pthread_t thread;
+    pthread_create(&thread, NULL, routine, NULL);                              /* @first_fork */
+    pthread_exit(NULL);
+}
+
+static void first_thread_ends(void)
+{
+    ends_before(runs_on);
+}
+
+static void first_thread_ends_in_background(void)
+{
+    if (fork() == 0)
+        ends_before(reads_on);
+    fclose(stdout);
+}
+
 /* Many events, and then no rights to make files in the directory of the recording. */
 static void gives_up_root(void)
 {
@@ -1051,7 +1095,8 @@ static const struct {
     {"repeats", repeats}, {"volume", volume}, {"volume_and_wait", volume_and_wait}, {"volume_and_thread", volume_and_thread},
     {"confined", confined}, {"no_files", no_files}, {"many_threads", many_threads}, {"forks", forks},
     {"parent_goes_on", parent_goes_on}, {"raw_fork", raw_fork}, {"forks_in_handler", forks_in_handler}, {"changes_root", changes_root}, {"executes", executes}, {"clears_environment", clears_environment},
-    {"goes_to_background", goes_to_background}, {"waits_for_signal", waits_for_signal}, {"frames", frames}, {"frames_vary", frames_vary},
+    {"goes_to_background", goes_to_background}, {"first_thread_ends", first_thread_ends},
+    {"first_thread_ends_in_background", first_thread_ends_in_background}, {"waits_for_signal", waits_for_signal}, {"frames", frames}, {"frames_vary", frames_vary},
     {"table", table}, {"nothing", nothing},
 };
 

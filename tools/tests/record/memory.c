@@ -12,6 +12,7 @@
 #include <sys/mman.h>
 #include <sys/resource.h>
 #include <sys/shm.h>
+#include <threads.h>
 #include <ucontext.h>
 #include <unistd.h>
 
@@ -174,6 +175,7 @@ static void taken_early(void)
 
 static pthread_mutex_t made_twice = PTHREAD_MUTEX_INITIALIZER;
 static pthread_rwlock_t gone = PTHREAD_RWLOCK_INITIALIZER;
+static mtx_t gone_too;
 
 /* Locks that are made anew, or destroyed, while they are held. */
 static void remade(void)
@@ -185,6 +187,10 @@ static void remade(void)
     for (int i = 0; i < 2; i++)
         pthread_rwlock_rdlock(&gone); /* @gone */
     MUST(pthread_rwlock_destroy(&gone) == 0);
+    use(&b);
+    MUST(mtx_init(&gone_too, mtx_plain) == thrd_success);
+    mtx_lock(&gone_too); /* @gone_too */
+    mtx_destroy(&gone_too);
     use(&b);
 }
 

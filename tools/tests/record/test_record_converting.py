@@ -79,6 +79,14 @@ def test_while_the_program_runs():
     assert raw_directories() == [], "the directory is still there"
 
 
+def test_while_a_program_runs_whose_first_thread_has_ended():
+    program, directory = orphan("first_thread_ends")
+    done = convert(directory, "so-far.std")
+    assert done.returncode == 0 and b"still running: process %d;" % program in done.stderr, done.stderr.decode()
+    assert os.path.isdir(directory), "the directory is gone"
+    end(program)
+
+
 def test_while_the_recorder_runs():
     running, _ = start(RECORD, ["./locks", "waits_for_signal"])
     done = convert(raw_directory("t.std"), "so-far.std")

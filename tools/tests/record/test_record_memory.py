@@ -79,7 +79,9 @@ def test_locks_that_are_made_anew_or_destroyed_while_they_are_held():
         main|racq(gone)|@gone
         main|racq(gone)|@gone
         main|rrel(gone)|@gone
-        main|rrel(gone)|@gone""",
+        main|rrel(gone)|@gone
+        main|acq(gone_too)|@gone_too
+        main|rel(gone_too)|@gone_too""",
         "memory.c",
     )
 

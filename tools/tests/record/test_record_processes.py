@@ -11,6 +11,15 @@ from c_programs import end, has_ended, raw_directories, raw_directory
 from c_traces import PAIR, convert, known, record
 from known_traces import LIMIT, NO_EVENTS, RECORD, REFUSED, compare, read_line, read_lines, start, wait_for
 
+FIRST_ENDED = """
+    main|fork(main.1:reads_on)|@first_fork
+    main.1:reads_on|acq(a)|@pair_lock
+    main.1:reads_on|rel(a)|@pair_unlock
+    main.1:reads_on|acq(a)|@both_a
+    main.1:reads_on|acq(b)|@both_b
+    main.1:reads_on|rel(b)|@both_b_end
+    main.1:reads_on|rel(a)|@both_a_end"""
+
 
 def test_forked_process():
     run = record("./locks", "forks")
@@ -173,6 +182,20 @@ def test_process_in_the_background():
     assert len(files) == 2, str(files)
     compare(read_lines("t.std"), known(PAIR))
     assert len(read_lines(files[1])) == 4, files[1]
+
+
+def test_process_in_the_background_whose_first_thread_has_ended():
+    """It is waited for as others are: to the end of its last thread, which comes with that of its standard input."""
+    command = [RECORD, "-o", "t.std", "./locks", "first_thread_ends_in_background"]
+    running = subprocess.Popen(command, stdin=subprocess.PIPE, stdout=subprocess.PIPE, stderr=subprocess.PIPE)
+    process = int(read_line(running.stdout).split()[1])
+    said = read_line(running.stderr)
+    assert said == b"goodlock-record: waiting for process %d, which runs on\n" % process, said.decode()
+    with pytest.raises(subprocess.TimeoutExpired):
+        running.wait(1.5)
+    _, said = running.communicate(timeout=LIMIT)
+    assert running.returncode == 0, said.decode()
+    compare(read_lines("t.std.%d" % process), known(FIRST_ENDED))
 
 
 def test_the_directory_is_nobody_elses():

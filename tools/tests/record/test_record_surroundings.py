@@ -8,8 +8,8 @@ import subprocess
 
 import pytest
 from c_programs import C_FLAGS, SOURCES
-from c_traces import record
-from known_traces import LIMIT, RECORD, REFUSED, TOOLS, read_lines, wait_for
+from c_traces import known, record
+from known_traces import LIMIT, RECORD, REFUSED, TOOLS, compare, read_lines, wait_for
 
 
 def test_nothing_is_overwritten():
@@ -69,6 +69,18 @@ def test_program_with_address_sanitizer():
     run = record("./locks-asan", "mutexes")
     assert run.status == 0 and "ERROR" not in run.said, run.said
     assert len(run.lines()) == 8, str(run.lines())
+
+
+def test_program_with_thread_sanitizer_of_clang():
+    """It puts functions of its own before those of the C library into the program: a call's place is that of who called them."""
+    command = ["clang", "-fsanitize=thread", *C_FLAGS, "-o", "locks-tsan", os.path.join(SOURCES, "locks.c")]
+    if not shutil.which("clang") or subprocess.run(command, stderr=subprocess.PIPE).returncode != 0:
+        pytest.skip("no ThreadSanitizer of Clang here")
+    if subprocess.run(["./locks-tsan", "table"], stderr=subprocess.PIPE).returncode != 0:
+        pytest.skip("ThreadSanitizer doesn't run here")
+    run = record("./locks-tsan", "table")
+    assert run.status == 0, run.said
+    compare(run.lines(), known("main|acq(many+0x78)|@table\nmain|rel(many+0x78)|@table_end"))
 
 
 def become_ignorant():

@@ -38,6 +38,20 @@ static inline int others_sleep(void)
     return all;
 }
 
+/* Until the first thread has ended, by pthread_exit, of a process in which others run on. */
+static inline void wait_for_first_to_end(void)
+{
+    char path[32], state = 0;
+    snprintf(path, sizeof path, "/proc/%d/stat", (int)getpid());
+    while (state != 'Z') {
+        FILE *file = fopen(path, "r");
+        if (!file || fscanf(file, "%*d (%*[^)]) %c", &state) != 1)
+            _exit(99);
+        fclose(file);
+        usleep(1000);
+    }
+}
+
 /* How often a thread of the process went to sleep so far. */
 static inline long sleeps_of(long thread)
 {
