@@ -9,7 +9,8 @@
 //! then, edges are left out with about as much effort, and the search goes on at the root where it
 //! stood, among those that stay, with several times the steps: a round. What was found stays, since what is left out is in no cycle.
 //! They are left out in the component of the lock-order graph in which the search stands, or in all but the greatest ones together:
-//! others may be such that a plain search is through with them at once. Each has its turn once the search stands there.
+//! others may be such that a plain search is through with them at once. Each has its turn once the search stands there. Only where it stands
+//! there again they are left out in all components, and the search has several times the steps.
 //!
 //! From the second round on it is asked of each edge how long a cycle with it can be: in some parts of the lock-order graph none may be longer
 //! than a few edges.
@@ -68,6 +69,9 @@ const PASSES: usize = 8;
 
 // Of how many edges one is to be left out, so that leaving out once more may pay.
 const WORTH: usize = 8;
+
+// What part of the effort each part of the graph gets where edges are left out in all of them.
+const PARTS: usize = 4;
 
 // How many steps are worth the effort for each reason of one: there are several reasons, and each takes
 // as much effort twice.
@@ -149,11 +153,6 @@ fn limits_in(
     Ok(Some(limits))
 }
 
-// Whether a search that has found so many cycles up to a cap is near its end: then it goes on as it is.
-fn is_near(found: usize, cap: usize) -> bool {
-    found >= NEAR && found >= cap / NEAR
-}
-
 // Whether edges were left out already in the part of the graph in which the edge at a position lies.
 fn is_left_out(times: &[usize], position: usize) -> bool {
     match times.get(position) {
@@ -162,11 +161,53 @@ fn is_left_out(times: &[usize], position: usize) -> bool {
     }
 }
 
+// Whether a search that stands at a root has found the last one of these cycles in a part of the graph like the root's: edges were left out in
+// both, or in neither.
+fn is_alike(found: &[Vec<usize>], times: &[usize], root: usize) -> bool {
+    let Some(cycle) = found.last() else {
+        return true;
+    };
+    match cycle.first() {
+        Some(&first) => is_left_out(times, first) == is_left_out(times, root),
+        None => true,
+    }
+}
+
+// Whether a search that has found these cycles up to a cap, and stands at a root, is near its end: then it goes on as it is.
+fn is_near(found: &[Vec<usize>], cap: usize, times: &[usize], root: usize) -> bool {
+    found.len() >= NEAR && found.len() >= cap / NEAR && is_alike(found, times, root)
+}
+
+// Leaves out edges before a search goes on that stands at a root: in the root's part of the graph, where none were left out there; else in all
+// parts, since it goes on with several times the steps, and would spend them in one where none were.
+fn leave_out_between(
+    alloc: Global,
+    sought: &Sought<'_>,
+    effort: usize,
+    root: usize,
+    times: &mut Vec<usize>,
+    kept: &mut Vec<bool>,
+) -> Result<(), Memory>
+    requires some { 0 < sought.now.len }
+    requires kept { KeepsSought sought.now kept.old.items }
+    ensures { OnOk result (KeepsSought sought.now kept.new.items) }
+{
+    if !is_left_out(times, root) {
+        sought.leave_out_around(alloc, effort, root, times, kept)?;
+        return Ok(());
+    }
+    if times.contains(&0) {
+        sought.leave_out_in_turn(alloc, effort / PARTS, kept)?;
+        *times = vec![in alloc; 1; times.len()]?;
+    }
+    Ok(())
+}
+
 // Searches in rounds, each of no more than so many steps but the first. Where the search stands in a part of the graph in which none were left
 // out, edges are left out there, and it goes on with as many steps as the first round has: another part may be one that a plain
-// search goes through at once, and then it is left as it is, or one in which it stands soon. Where they were left out, and where it is near
-// its end, it has the steps of one round more. A round that wouldn't have more steps than the one before is passed over. The root at which
-// the search stands then.
+// search goes through at once, and then it is left as it is, or one in which it stands soon. Where they were left out there, they are left
+// out in all parts, and then, as where it is near its end, it has the steps of one round more. A round that wouldn't have more steps than
+// the one before is passed over. The root at which the search stands then.
 fn search_in_rounds(
     alloc: Global,
     sought: &Sought<'_>,
@@ -198,18 +239,16 @@ fn search_in_rounds(
             root,
             found,
         )?;
-        let near = is_near(found.len(), cap);
+        let near = is_near(found, cap, &times, root);
         let goes_on = near || is_left_out(&times, root);
         let last = if near { LAST_NEAR } else { LAST };
         if root >= sought.table.len() || most <= steps || (goes_on && round >= last) {
             return Ok(root);
         }
-        if goes_on {
-            round = round.saturating_add(1);
-        } else {
-            sought.leave_out_around(alloc, effort_of(steps), root, &mut times, kept)?;
-            round = 0;
+        if !near {
+            leave_out_between(alloc, sought, effort_of(steps), root, &mut times, kept)?;
         }
+        round = if goes_on { round.saturating_add(1) } else { 0 };
     }
     Ok(root)
 }
