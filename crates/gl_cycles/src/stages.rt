@@ -70,6 +70,9 @@ const PASSES: usize = 8;
 // Of how many edges one is to be left out, so that leaving out once more may pay.
 const WORTH: usize = 8;
 
+// What part of its steps the first round has in later turns: in the next part of the graph that no plain search goes through they are for nothing.
+const LATER: usize = 4;
+
 // What part of the effort each part of the graph gets where edges are left out in all of them.
 const PARTS: usize = 4;
 
@@ -93,10 +96,10 @@ fn steps_of(round: usize, edges: usize) -> usize {
     steps
 }
 
-// How many of these steps a round has where there may be no more than so many: the first one has all.
-fn steps_within(round: usize, steps: usize, most: usize) -> usize {
+// How many of these steps a round has in a turn where there may be no more than so many: the first one has all, and in later turns a part.
+fn steps_within(turn: usize, round: usize, steps: usize, most: usize) -> usize {
     if round == 0 {
-        return steps;
+        return if turn == 0 { steps } else { steps / LATER };
     }
     if round > LAST {
         return steps.min(most).min(STEPS_NEAR);
@@ -204,7 +207,7 @@ fn leave_out_between(
 }
 
 // Searches in rounds, each of no more than so many steps but the first. Where the search stands in a part of the graph in which none were left
-// out, edges are left out there, and it goes on with as many steps as the first round has: another part may be one that a plain
+// out, edges are left out there, and it goes on with a part of the steps of the first round: another part may be one that a plain
 // search goes through at once, and then it is left as it is, or one in which it stands soon. Where they were left out there, they are left
 // out in all parts, and then, as where it is near its end, it has the steps of one round more. A round that wouldn't have more steps than
 // the one before is passed over. The root at which the search stands then.
@@ -233,7 +236,7 @@ fn search_in_rounds(
             alloc,
             sought,
             cap,
-            steps_within(round, steps, most),
+            steps_within(turn, round, steps, most),
             kept,
             limits_in(alloc, sought, turn, kept)?,
             root,
