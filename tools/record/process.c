@@ -22,6 +22,8 @@
 #endif
 
 #define TABLE_CHUNK_BYTES (16 * CHUNK_UNIT)
+#define NUMBER_APART 200 /* the least number by which the recorder has a file open */
+#define FILE_TRIES 4     /* how often a file is made where its number is taken away */
 
 struct process process;
 struct thread thread_none;
@@ -130,13 +132,47 @@ void *pages_new_wiped(size_t bytes)
     return pages;
 }
 
+/* Whether a number is that of the file with this path's last part, as far as that can be told. */
+static int is_file_of(int file, const char *path)
+{
+    static char named[4096]; /* not on the stack, of which a thread may have little */
+    char link[32];
+    snprintf(link, sizeof link, "/proc/self/fd/%d", file);
+    ssize_t length = readlink(link, named, sizeof named - 1);
+    if (length < 0)
+        return 1;
+    named[length] = 0;
+    return strcmp(strrchr(named, '/') ? strrchr(named, '/') : named, strrchr(path, '/')) == 0;
+}
+
+/* The file by a greater number: other threads may close all numbers, and then open files of their own, which get the
+ * least ones that are free. -1 where that has happened: the number is another file's, and nothing was done to it. */
+static int file_apart(int file, const char *path)
+{
+    int apart = fcntl(file, F_DUPFD_CLOEXEC, NUMBER_APART);
+    if (apart < 0)
+        return errno == EBADF ? -1 : file; /* there is no such number */
+    int is_own = is_file_of(apart, path);
+    close(is_own ? file : apart);
+    return is_own ? apart : -1;
+}
+
 /* Makes a new file that its owner may read and write, whatever the program's umask is. Until then it is empty. */
 static int file_new(const char *path)
 {
-    int file = open(path, O_RDWR | O_CREAT | O_EXCL | O_CLOEXEC | O_NOFOLLOW, 0600);
-    if (file >= 0)
-        fchmod(file, 0600);
-    return file;
+    for (int tries = 0; tries < FILE_TRIES; tries++) {
+        int file = open(path, O_RDWR | O_CREAT | O_EXCL | O_CLOEXEC | O_NOFOLLOW, 0600);
+        if (file < 0)
+            return file;
+        int apart = file_apart(file, path);
+        if (apart >= 0) {
+            fchmod(apart, 0600);
+            return apart;
+        }
+        unlink(path);
+    }
+    errno = EBADF;
+    return -1;
 }
 
 /* Opens a new file of this process: in the recording's directory, or, where the user that this process became may not

@@ -44,6 +44,15 @@ def test_full_disk(small_disk):
     assert os.listdir("small") == [], str(os.listdir("small"))
 
 
+def test_file_whose_number_is_taken_away():
+    """It is made once more, and the file that got its number stays as it is."""
+    run = record("./numbers")
+    assert run.status == 0, run.said
+    assert os.path.getsize("own") == 0, os.path.getsize("own")
+    lines = run.lines()
+    assert 4 * 224 * 224 <= len(lines) <= 4 * 224 * 224 + 40, "%d lines" % len(lines)
+
+
 @pytest.mark.parametrize("small_disk", ["1500k"], indirect=True)
 def test_thread_that_begins_on_a_full_disk(small_disk):
     """Its birth, acquire, release and join are among what is lost; its beginning and its end may be counted, too."""
