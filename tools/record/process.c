@@ -151,7 +151,7 @@ static int file_apart(int file, const char *path)
 {
     int apart = fcntl(file, F_DUPFD_CLOEXEC, NUMBER_APART);
     if (apart < 0)
-        return errno == EBADF ? -1 : file; /* there is no such number */
+        return errno == EBADF || !is_file_of(file, path) ? -1 : file; /* there is no such number */
     int is_own = is_file_of(apart, path);
     close(is_own ? file : apart);
     return is_own ? apart : -1;

@@ -44,12 +44,14 @@ def test_full_disk(small_disk):
     assert os.listdir("small") == [], str(os.listdir("small"))
 
 
-def test_file_whose_number_is_taken_away():
-    """It is made once more, and the file that got its number stays as it is."""
-    run = record("./numbers")
+@pytest.mark.parametrize("files", [1024, 64])
+def test_file_whose_number_is_taken_away(files):
+    """It is made once more, and the file that got its number stays as it is; also where few may be open."""
+    run = record("sh", "-c", "ulimit -n %d; exec ./numbers" % files)
     assert run.status == 0, run.said
     assert os.path.getsize("own") == 0, os.path.getsize("own")
-    lines = run.lines()
+    (trace,) = (name for name in os.listdir(".") if name.startswith("t.std."))
+    lines = read_lines(trace)
     assert 4 * 224 * 224 <= len(lines) <= 4 * 224 * 224 + 40, "%d lines" % len(lines)
 
 
