@@ -37,14 +37,36 @@ static void signals_set(int how, const uint64_t *set, uint64_t *old)
     syscall(SYS_rt_sigprocmask, how, set, old, sizeof *set);
 }
 
+void signals_shut_out(uint64_t *before)
+{
+    uint64_t every = ~0ull;
+    signals_set(SIG_BLOCK, &every, before);
+}
+
+void signals_let_in(const uint64_t *before)
+{
+    signals_set(SIG_SETMASK, before, NULL);
+}
+
+/* Those that can't be shut out, and the two that the C library keeps for itself: no program's mask has these. */
+#define SIGNALS_APART (1ull << (SIGKILL - 1) | 1ull << (SIGSTOP - 1) | 3ull << (32 - 1))
+
+void signals_follow(uint64_t mask)
+{
+    uint64_t now = 0;
+    signals_set(SIG_BLOCK, NULL, &now);
+    mask &= ~SIGNALS_APART;
+    if ((now | SIGNALS_APART) == ~0ull)
+        signals_let_in(&mask);
+}
+
 /* While a thread is in a slow part it has no current thread: a lock that a library takes on the
  * recorder's behalf isn't recorded. Nor is it cancelled where the recorder opens a file, as it would be in no call of a
  * lock. */
 void slow_enter(struct slow_state *state)
 {
-    uint64_t every = ~0ull;
     state->error = errno;
-    signals_set(SIG_BLOCK, &every, &state->signals);
+    signals_shut_out(&state->signals);
     pthread_setcancelstate(PTHREAD_CANCEL_DISABLE, &state->cancel_state);
     while (__atomic_exchange_n(&process.slow_lock, 1, __ATOMIC_ACQUIRE))
         sched_yield();
@@ -58,7 +80,7 @@ void slow_leave(struct slow_state *state)
     current_thread = state->thread;
     in_slow_part = 0;
     __atomic_store_n(&process.slow_lock, 0, __ATOMIC_RELEASE);
-    signals_set(SIG_SETMASK, &state->signals, NULL);
+    signals_let_in(&state->signals);
     errno = state->error;
     pthread_setcancelstate(state->cancel_state, NULL);
 }
@@ -80,15 +102,14 @@ static void visitors_add(int count)
 
 void visit_begin(uint64_t *signals)
 {
-    uint64_t every = ~0ull;
-    signals_set(SIG_BLOCK, &every, signals);
+    signals_shut_out(signals);
     visitors_add(1);
 }
 
 void visit_end(const uint64_t *signals)
 {
     visitors_add(-1);
-    signals_set(SIG_SETMASK, signals, NULL);
+    signals_let_in(signals);
 }
 
 /* Into a slow part in which nobody visits. */

@@ -22,6 +22,14 @@ void user_directory(uid_t user);
 /* Whether the present thread is between slow_enter and slow_leave. */
 int slow_inside(void);
 
+/* Shut all signals out, and let in again those that were let in before. */
+void signals_shut_out(uint64_t *before);
+void signals_let_in(const uint64_t *before);
+
+/* In a new thread whose maker had all signals shut out: puts on this mask. Where the thread has another one, of the
+ * usual attributes of threads, that stays. */
+void signals_follow(uint64_t mask);
+
 /* Before and after a visit to all modules by the loader, outside of slow parts: nobody forks in between, and no signal
  * comes. */
 void visit_begin(uint64_t *signals);

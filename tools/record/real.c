@@ -55,6 +55,8 @@ int real_find(void)
         all.pthread_cond_timedwait = (int (*)(pthread_cond_t *, pthread_mutex_t *, deadline_t))timed_wait;
 #endif
     all.malloc_usable_size = usable_size_of((void *)all.free);
+    function = dlsym(RTLD_NEXT, "pthread_attr_getsigmask_np");
+    all.pthread_attr_getsigmask_np = (int (*)(const pthread_attr_t *, sigset_t *))function;
     real = all;
     real_found = 1;
     finding = 0;

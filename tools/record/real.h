@@ -3,6 +3,7 @@
 #define GOODLOCK_REAL_H
 
 #include <pthread.h>
+#include <signal.h>
 #include <stddef.h>
 #include <sys/types.h>
 #include <threads.h>
@@ -85,6 +86,7 @@ struct real_functions {
     REAL_FUNCTIONS(REAL_MEMBER)
 #undef REAL_MEMBER
     size_t (*malloc_usable_size)(void *); /* of the library that frees; NULL: it has none */
+    int (*pthread_attr_getsigmask_np)(const pthread_attr_t *, sigset_t *); /* NULL: attributes have no mask */
 };
 
 extern struct real_functions real;

@@ -2,6 +2,7 @@
 #define _GNU_SOURCE
 #include <errno.h>
 #include <limits.h>
+#include <signal.h>
 #include <string.h>
 #include <sys/mman.h>
 #include <sys/resource.h>
@@ -241,6 +242,8 @@ struct beginning {
     thrd_start_t c11_routine;
     void *argument;
     size_t stack_bytes;
+    uint64_t signals;     /* the maker's mask */
+    int signals_shut_out; /* whether the thread is made under another one, and has to put on the maker's itself */
     struct thread_record *record;
     int mapped;
     int users;
@@ -348,22 +351,33 @@ static size_t stack_bytes_of(const pthread_attr_t *attributes)
 /* The frames of what the thread runs lie below the one here. Its thread-locals lie above that, and below what its
  * handle is the address of (of other machines than x86-64 that isn't so). Above that is what else belongs to its stack.
  */
-static void thread_adopt(struct beginning *beginning, void *frame)
+static void thread_stack(size_t stack_bytes, void *frame)
 {
-    pthread_t self = pthread_self();
-    size_t stack_bytes = beginning->stack_bytes;
-    own_record = beginning->record;
-    beginning_map(beginning, &self);
     struct thread *thread = recording_thread();
     if (!thread)
         return;
 #ifdef __x86_64__
-    thread->stack_to = (uintptr_t)self;
+    thread->stack_to = (uintptr_t)pthread_self();
 #else
     thread->stack_to = (uintptr_t)frame;
 #endif
     thread->stack_from = thread->stack_to - stack_bytes + STACK_MARGIN;
     (void)frame;
+}
+
+/* Up to here no signal comes: its handler would find a thread that nobody made. Then the thread has its maker's mask,
+ * as without the recorder. */
+static void thread_adopt(struct beginning *beginning, void *frame)
+{
+    pthread_t self = pthread_self();
+    size_t stack_bytes = beginning->stack_bytes;
+    uint64_t signals = beginning->signals;
+    int shut_out = beginning->signals_shut_out;
+    own_record = beginning->record;
+    beginning_map(beginning, &self);
+    thread_stack(stack_bytes, frame);
+    if (shut_out)
+        signals_follow(signals);
 }
 
 static void *thread_begin(void *value)
@@ -405,6 +419,25 @@ static void fork_done(struct thread *thread, struct beginning *beginning, const 
     beginning_map(beginning, handle);
 }
 
+/* A new thread has the signals shut out that its maker has, so all of them, until it puts on the right mask itself.
+ * Where its attributes have a mask of their own, it begins with that one, whatever is done here. */
+static void making_begin(struct beginning *beginning, const pthread_attr_t *attributes)
+{
+    sigset_t mask;
+    beginning->stack_bytes = stack_bytes_of(attributes);
+    beginning->signals_shut_out =
+        !attributes || !real.pthread_attr_getsigmask_np || real.pthread_attr_getsigmask_np(attributes, &mask) != 0;
+    if (beginning->signals_shut_out)
+        signals_shut_out(&beginning->signals);
+}
+
+/* The thread may run already, but its maker still has the beginning, too. */
+static void making_end(const struct beginning *beginning)
+{
+    if (beginning->signals_shut_out)
+        signals_let_in(&beginning->signals);
+}
+
 EXPORTED int pthread_create(pthread_t *handle, const pthread_attr_t *attributes, void *(*routine)(void *),
                             void *argument)
 {
@@ -414,10 +447,11 @@ EXPORTED int pthread_create(pthread_t *handle, const pthread_attr_t *attributes,
     if (!beginning)
         return real.pthread_create(handle, attributes, routine, argument);
     beginning->routine = routine;
-    beginning->stack_bytes = stack_bytes_of(attributes);
     struct segment before;
     uint64_t *place = fork_write(thread, beginning, site, &before);
+    making_begin(beginning, attributes);
     int result = real.pthread_create(handle, attributes, thread_begin, beginning);
+    making_end(beginning);
     if (result == 0)
         fork_done(thread, beginning, handle, &before);
     else
@@ -433,10 +467,11 @@ EXPORTED int thrd_create(thrd_t *handle, thrd_start_t routine, void *argument)
     if (!beginning)
         return real.thrd_create(handle, routine, argument);
     beginning->c11_routine = routine;
-    beginning->stack_bytes = stack_bytes_of(NULL);
     struct segment before;
     uint64_t *place = fork_write(thread, beginning, site, &before);
+    making_begin(beginning, NULL);
     int result = real.thrd_create(handle, thread_begin_c11, beginning);
+    making_end(beginning);
     if (result == thrd_success)
         fork_done(thread, beginning, handle, &before);
     else

@@ -123,6 +123,28 @@ def test_signal_handler_that_locks():
     )
 
 
+def test_a_signal_before_anything_of_the_thread_runs():
+    """What the handler locks is what its thread locks: it isn't another one, that nobody made and that runs beside all."""
+    run = record("./born", "signals")
+    assert run.status == 0, "status %d: %s" % (run.status, run.said)
+    kinds = ("reads", "reads_c11") * 10
+    names = ["main.%d:%s" % (number, kind) for number, kind in enumerate(kinds, 1)]
+    lines = run.lines()
+    assert {line.split("|")[0] for line in lines} == {"main", *names}, "threads: %s" % run.said
+    own = known("acq(books)|@reads_books\nacq(pages)|@reads_pages", "born.c")
+    for name in names:
+        found = [line.split("|", 1)[1] for line in lines if line.startswith(name + "|") and "(count)" not in line]
+        compare(found[:2], own)
+    interrupted = {line.split("|")[0] for line in lines if "acq(count)" in line}
+    assert len(interrupted) >= 5, "signals came to %s" % sorted(interrupted)
+
+
+def test_a_thread_begins_with_the_signals_that_it_should():
+    """Those of its maker, or those that its attributes say."""
+    run = record("./born", "masks")
+    assert run.status == 0, "status %d: %s" % (run.status, run.said)
+
+
 def test_signals_at_any_instruction():
     """Every lock is held and released in turn, and next to all of the 8 million events are left out: what a handler does
     between two instructions of the recorder doesn't upset what it knows of the thread."""
