@@ -269,8 +269,11 @@ class Counts:
 
 
 def identity(edge):
-    """What tells an edge from others in whichever window it is: its positions among the events are another one's there."""
-    return json.dumps([edge[key] for key in sorted(edge) if key not in ("first", "second", "place")])
+    """What tells an edge from others in whichever window it is. Its positions among the events are others there, and so is the order of
+    what its thread holds: that of the locks' numbers, which each window counts anew."""
+    apart = ("first", "second", "place", "guards", "guard_modes")
+    guards = sorted(zip(edge["guards"], edge["guard_modes"]))
+    return json.dumps([guards] + [edge[key] for key in sorted(edge) if key not in apart])
 
 
 def text_of(report, listed, counts):

@@ -121,7 +121,7 @@ def window(*cycles):
         threads = [thread for thread, _ in cycle]
         for (thread, place), following in zip(cycle, threads[1:] + threads[:1]):
             edge = {"thread": "T%d" % thread, "held": "l%d" % thread, "wanted": "l%d" % following}
-            edges.append({**edge, "held_at": place[0], "wanted_at": place})
+            edges.append({**edge, "held_at": place[0], "wanted_at": place, "guards": [], "guard_modes": []})
     data = json.dumps({"edges": edges, "findings": findings, "more": False}).encode()
     return Report(OK, len(findings), False, data, True)
 

@@ -1,5 +1,7 @@
 """The report at the end: it is that of a trace."""
 
+import json
+
 import pytest
 from c_programs import MARKS, end, raw_directory
 from following import (
@@ -83,6 +85,38 @@ def test_threads_that_come_and_go(path):
             [line.split(" since")[0] for line in done.lines()],
             ["cycle 1: 2 edges", "  main.1501:one_way holds a", "  main.1502:other_way holds b", "cycles: 1"],
         )
+
+
+def guarded_window(*guards):
+    """What goodlock_live answers of a window with one cycle, whose first edge's thread holds these locks in these modes."""
+    from live import OK, Report
+
+    names, modes = [name for name, _ in guards], [mode for _, mode in guards]
+    first = {"thread": "T1", "held": "a", "wanted": "b", "guards": names, "guard_modes": modes, "first": len(names)}
+    second = {"thread": "T2", "held": "b", "wanted": "a", "guards": ["b"], "guard_modes": ["x"], "first": 0}
+    edges = [{**edge, "held_at": "p1", "wanted_at": "p2"} for edge in (first, second)]
+    data = json.dumps({"edges": edges, "cycles": [[0, 1]], "more": False}).encode()
+    return Report(OK, 1, False, data, False)
+
+
+@pytest.mark.parametrize(
+    "other, count",
+    [
+        ([("own", "s"), ("a", "x")], 1),
+        ([("own", "x"), ("a", "s")], 2),
+        ([("a", "x")], 2),
+        ([("a", "x"), ("it", "s")], 2),
+    ],
+)
+def test_a_cycle_of_two_windows_is_listed_once(other, count):
+    """Also where the locks that a thread holds have other numbers in the second window, and so stand in another order."""
+    from live import Question, merged
+
+    windows = [guarded_window(("a", "x"), ("own", "s")), guarded_window(*other)]
+    report = merged(windows, Question("full", 4, 1, False), True)
+    whole = json.loads(report.data)
+    assert (len(whole["cycles"]), len(whole["edges"]), report.more) == (1, 2, count > 1), str(whole)
+    assert len(json.loads(merged(windows, Question("full", 4, 10, False), True).data)["cycles"]) == count
 
 
 @pytest.mark.parametrize("others, cycles", [(3, 1), (1500, 0)])
