@@ -15,6 +15,8 @@ SHARE := $(PREFIX)/share
 DOC := $(SHARE)/doc/goodlock
 LIBRARY ?= prebuilt/libgoodlock.a
 LIBDIR ?= $(PREFIX)/lib
+# In goodlock.pc: so pkg-config --define-prefix finds both halves of what was moved, or was installed with DESTDIR.
+LIBDIR_BELOW_PREFIX = $(patsubst $(PREFIX)/%,$${prefix}/%,$(LIBDIR))
 INCLUDE := $(PREFIX)/include
 HEADERS := goodlock.h goodlock_debug.h goodlock_names.h goodlock.hpp
 SHARED := libgoodlock.so.0
@@ -52,7 +54,7 @@ $(OUT)/$(SHARED): $(LIBRARY) library/goodlock.map
 
 $(OUT)/goodlock.pc: library/goodlock.pc.in FORCE
 	mkdir -p $(OUT)
-	sed -e 's|@PREFIX@|$(PREFIX)|' -e 's|@LIBDIR@|$(LIBDIR)|' -e 's|@VERSION@|$(VERSION)|' $< >$@
+	sed -e 's|@PREFIX@|$(PREFIX)|' -e 's|@LIBDIR@|$(LIBDIR_BELOW_PREFIX)|' -e 's|@VERSION@|$(VERSION)|' $< >$@
 
 install-library: library
 	$(INSTALL) -d "$(DESTDIR)$(INCLUDE)" "$(DESTDIR)$(LIBDIR)/pkgconfig" "$(DESTDIR)$(DOC)/examples"

@@ -168,6 +168,17 @@ def test_a_program_is_built_by_pkg_config(prefix, source, compiler, held, monkey
 
 
 @needs_library
+@pytest.mark.skipif(not has("pkg-config"), reason="pkg-config isn't installed")
+def test_the_library_is_found_where_it_was_moved(prefix, tmp_path, monkeypatch):
+    """The header and the library that belong together: not the one here and the other where it was."""
+    moved = tmp_path / "moved"
+    shutil.copytree(prefix / "lib" / "pkgconfig", moved / "lib" / "pkgconfig")
+    monkeypatch.setenv("PKG_CONFIG_PATH", str(moved / "lib" / "pkgconfig"))
+    flags = run("pkg-config", "--define-prefix", "--cflags", "--libs", "goodlock")[1].split()
+    assert flags == [f"-I{moved}/include", f"-L{moved}/lib", "-lgoodlock"]
+
+
+@needs_library
 @pytest.mark.skipif(not has("nm"), reason="nm isn't installed")
 def test_the_shared_library_shows_its_calls_alone(prefix):
     shown = run("nm", "-D", "--defined-only", prefix / "lib" / "libgoodlock.so.0")[1].split("\n")
