@@ -22,7 +22,7 @@
 //   is full the thread yields until the collecting thread has pulled: a larger ring makes that rare. It pulls off each lane
 //   in turn, so where many threads record more than it can pull, all of them go at its pace.
 // - What can't be recorded (more threads than lanes, an event that is refused, as the unlock of a mutex that was locked before
-//   start(), a lock at whose first use the session has no memory for its name) is counted in `unrecorded`, and the lock works all the same.
+//   start(), a lock at whose first use there is no memory for its name) is counted in `unrecorded`, and the lock works all the same.
 // - A thread's lane ends among the destructors of its pthread keys: what destructors of its thread_locals lock is recorded, and what
 //   those of keys lock is, or is counted in `unrecorded` where they come later. (A thread whose first lock of all is taken in the last
 //   round of such destructors keeps its lane, and the report isn't settled.)
@@ -351,13 +351,18 @@ public:
         delete own;
     }
 
+    // Where memory is refused there is no place, but the event is recorded; the next pass asks again.
     uint32_t place(const line &at) {
         const auto found = places.find(at);
         if (found != places.end())
             return found->second;
-        const uint32_t number = world::get().place(at);
-        places[at] = number;
-        return number;
+        try {
+            const uint32_t number = world::get().place(at);
+            places[at] = number;
+            return number;
+        } catch (const std::bad_alloc &) {
+            return NONE;
+        }
     }
 
     goodlock_lane lane = {nullptr};
@@ -428,8 +433,8 @@ inline void record(uint32_t kind, uint32_t operand, const line *here) {
         all.unrecorded++;
 }
 
-// A lock's name, and its number from its first use on: NONE where memory was refused to the session then. It isn't
-// recorded in that case, as no lock may have the number of another one.
+// A lock's name, and its number from its first use on: NONE where memory was refused then. It isn't recorded in that case,
+// as no lock may have the number of another one. Nothing is thrown: what is locked or unlocked goes on.
 class numbered {
 public:
     numbered(std::string given) : name(std::move(given)) {}
@@ -446,7 +451,12 @@ public:
 
 private:
     uint32_t get() {
-        std::call_once(once, [this] { number = world::get().lock(name); });
+        std::call_once(once, [this] {
+            try {
+                number = world::get().lock(name);
+            } catch (const std::bad_alloc &) {
+            }
+        });
         return number;
     }
 

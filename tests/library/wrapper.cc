@@ -4,18 +4,36 @@
 //     library_wrapper names       locks of one name, and of a name that tells such ones apart
 //     library_wrapper findings    reports of findings, so far and at the end
 //     library_wrapper memory      locks that get no number, and a thread that gets no lane, as memory is refused
+//     library_wrapper thrown      locks whose name or place is refused memory by C++, which throws
 //     library_wrapper threads     many threads with small rings, of which some have no lane
 //     library_wrapper ends        what is locked at a thread's end, by destructors of thread_locals and of pthread's
 //     keys library_wrapper leave       main returns without finish(), while a thread records
 //
-// Memory is refused by the linker's --wrap of malloc, calloc, realloc and aligned_alloc. What isn't as it has to be is
-// told; the last line is how many checks passed and failed.
+// Memory is refused by the linker's --wrap of malloc, calloc, realloc and aligned_alloc, and of operator new. What
+// isn't as it has to be is told; the last line is how many checks passed and failed.
 #include "checks.hpp"
 #include "refusing.h"
 
 #include <condition_variable>
 #include <cstring>
 #include <memory>
+#include <new>
+
+// How many requests of C++ this thread is granted yet; less than 0: all.
+static thread_local long granted = -1;
+
+extern "C" void *__real__Znwm(std::size_t size);
+extern "C" void *__wrap__Znwm(std::size_t size);
+
+// In place of operator new.
+void *__wrap__Znwm(std::size_t size)
+{
+    if (granted == 0)
+        throw std::bad_alloc();
+    if (granted > 0)
+        granted--;
+    return __real__Znwm(size);
+}
 
 // Locks and unlocks before the session and after it are std's.
 static void without_a_session()
@@ -218,7 +236,7 @@ static void take_both(goodlock::mutex &first, goodlock::mutex &second)
     goodlock::guard<goodlock::mutex> outer(first);
     goodlock::guard<goodlock::mutex> inner(second);
 }
-#line 221 "tests/library/wrapper.cc"
+#line 240 "tests/library/wrapper.cc"
 
 // A thread without memory for its lane isn't recorded later either: that it began after main had taken the two locks in
 // the other order isn't known then.
@@ -259,6 +277,68 @@ static void memory()
     check(result.code == GOODLOCK_OK && result.is_settled, "the report is settled");
     check(result.unrecorded == 16, std::to_string(result.unrecorded) + " events weren't recorded, and 16 are right");
     check(result.text == OF_TWO, "another text:\n" + result.text);
+}
+
+// Does this with so many requests of C++ granted, and tells whether nothing was thrown.
+template <class F> static bool goes_on(long requests_granted, F work)
+{
+    bool is_right = true;
+    granted = requests_granted;
+    try {
+        work();
+    } catch (const std::bad_alloc &) {
+        is_right = false;
+    }
+    granted = -1;
+    return is_right;
+}
+
+static const std::string LONG(100, 'n');
+
+// Places that no pass has named yet.
+static goodlock::line new_line()
+{
+    static unsigned number;
+    return {LONG.c_str(), ++number};
+}
+
+// Whether no thread has the mutex.
+static bool is_free(goodlock::mutex &lock)
+{
+    bool is_taken = false;
+    in_a_thread([&] {
+        is_taken = lock.try_lock();
+        if (is_taken)
+            lock.unlock();
+    });
+    return is_taken;
+}
+
+// A lock whose name or place has no memory is locked and unlocked all the same: else a try that threw would leave it
+// locked, and an unlock in a destructor would end the program. Of a lock that has a number no release is missing.
+static void thrown()
+{
+    check(goodlock::start(64, 64) == GOODLOCK_OK, "start");
+    goodlock::mutex c("c"), d("d");
+    for (long request = 0; request < 8; request++) {
+        const std::string number = std::to_string(request);
+        goodlock::mutex tried(LONG + "t" + number), locked(LONG + "l" + number);
+        const goodlock::line lines[] = {new_line(), new_line(), new_line(), new_line()};
+        bool is_taken = false;
+        check(goes_on(request, [&] { is_taken = tried.try_lock(lines[0]); }), "a try throws at request " + number);
+        check(is_taken, "a try takes no lock at request " + number);
+        check(goes_on(request, [&] { tried.unlock(lines[1]); }), "an unlock throws at request " + number);
+        check(is_free(tried), "a lock is left locked at request " + number);
+        check(goes_on(request, [&] { locked.lock(lines[2]); }), "a lock throws at request " + number);
+        check(goes_on(request, [&] { locked.unlock(lines[3]); }), "an unlock throws at request " + number);
+        check(is_free(locked), "a lock is left locked at request " + number);
+        take_both(d, c);
+    }
+    in_a_thread([&] { take_both(c, d); });
+    const goodlock::result result = goodlock::finish();
+    check(result.code == GOODLOCK_OK && result.is_settled, "the report is settled");
+    check(result.unrecorded > 0 && result.unrecorded % 2 == 0, std::to_string(result.unrecorded) + " unrecorded");
+    check(result.text == "cycles: 0\n", "another text:\n" + result.text);
 }
 
 static void threads()
@@ -380,6 +460,8 @@ int main(int count, char **words)
         findings();
     else if (word == "memory")
         memory();
+    else if (word == "thrown")
+        thrown();
     else if (word == "threads")
         threads();
     else if (word == "ends")
