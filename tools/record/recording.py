@@ -14,6 +14,7 @@ MARK_TEXT = b"goodlock recording\n"
 MARK_BYTES = 4096
 UNRECORDED_PLACE = 64
 CONVERTED = ".converted"
+DIRECTORY_MOST = 2999  # bytes of a directory's path, of which a recorded process keeps so many (recorder.h)
 
 EXTENT_NAME = re.compile(r"([0-9]{1,18})\.([0-9]{1,18})\.([0-9]{1,18})")
 # Of live.py, there while a report is made: the events' copy and the report, with the number of the process that makes it.
@@ -254,6 +255,9 @@ def new_recording(trace):
     directory = "%s.raw.%s" % (trace, os.urandom(8).hex())
     os.mkdir(directory, 0o700)
     directory = os.path.realpath(directory)
+    if len(os.fsencode(directory)) > DIRECTORY_MOST:
+        os.rmdir(directory)
+        raise OSError(errno.ENAMETOOLONG, os.strerror(errno.ENAMETOOLONG))
     try:
         descriptor = os.open(os.path.join(directory, MARK), os.O_RDWR | os.O_CREAT | os.O_EXCL | os.O_CLOEXEC, 0o600)
         lock = open(descriptor, "wb", buffering=0)

@@ -43,6 +43,22 @@ def test_wrong_arguments(arguments):
     assert done.stderr != b"" and b"Traceback" not in done.stderr, done.stderr.decode()
 
 
+@pytest.mark.parametrize("room, status", [(0, 0), (-1, REFUSED)])
+def test_a_folder_that_lies_very_deep(room, status, monkeypatch):
+    """A recorded process keeps 2,999 bytes of a recording's path: where that is longer, nothing is run."""
+    program = os.path.abspath("locks")
+    left = 2999 - room - len(os.fsencode(os.getcwd() + "/t.std.raw.0123456789abcdef"))
+    while left > 0:
+        step = left if left <= 200 else min(200, left - 2)
+        os.mkdir("d" * (step - 1))
+        monkeypatch.chdir("d" * (step - 1))
+        left -= step
+    run = record(program, "table")
+    assert run.status == status, "status %d: %s" % (run.status, run.said)
+    assert run.files() == ["t.std"] * (status == 0), "files: %s" % run.files()
+    assert ("can't write beside t.std: File name too long" in run.said) == (status != 0), run.said
+
+
 def links_for_the_loader():
     """Folders of links to libraries whose path the loader can't take, of this recording and of others that go on."""
     return set(glob.glob("/tmp/goodlock-record.*"))
