@@ -29,6 +29,9 @@
 // - finish() may be called while threads record: what they do from then on isn't recorded, and the report isn't settled.
 // - finish_with_findings() and findings_so_far() list findings in place of cycles: where threads that run the same code over many
 //   locks have thousands of cycles, each fault once.
+// - A program and the shared libraries that it is linked with have one session, however they are built. So have libraries that
+//   it opens by dlopen, where it uses goodlock.hpp itself and is linked with -rdynamic; else the locks of each of these are std's
+//   alone, and no report tells.
 // - After fork() in the child: none of this, only _exit or exec. Not from signal handlers, nor in a memory allocator.
 #ifndef GOODLOCK_HPP
 #define GOODLOCK_HPP
@@ -52,6 +55,10 @@
 
 // The line of the source that calls, as a parameter that is left out.
 #define GOODLOCK_HERE goodlock::line here = goodlock::line::now()
+
+// Before a function whose static variable there is once in the process, whichever part of it asks: also where a part is built
+// with -fvisibility=hidden or -fvisibility-inlines-hidden.
+#define GOODLOCK_ONCE __attribute__((visibility("default")))
 
 namespace goodlock {
 
@@ -118,7 +125,7 @@ private:
 // The session of the process. It is never destroyed, as threads may outlive main.
 class world {
 public:
-    static world &get() {
+    GOODLOCK_ONCE static world &get() {
         static world *const only = new world;
         return *only;
     }
@@ -396,19 +403,19 @@ private:
         return own;
     }
 
-    static mine *&current() {
+    GOODLOCK_ONCE static mine *&current() {
         static thread_local mine *own = nullptr;
         return own;
     }
-    static bool &is_over() {
+    GOODLOCK_ONCE static bool &is_over() {
         static thread_local bool over = false;
         return over;
     }
-    static goodlock_lane &given() {
+    GOODLOCK_ONCE static goodlock_lane &given() {
         static thread_local goodlock_lane lane = {nullptr};
         return lane;
     }
-    static bool &is_left_out() {
+    GOODLOCK_ONCE static bool &is_left_out() {
         static thread_local bool left_out = false;
         return left_out;
     }
@@ -699,5 +706,6 @@ private:
 } // namespace goodlock
 
 #undef GOODLOCK_HERE
+#undef GOODLOCK_ONCE
 
 #endif

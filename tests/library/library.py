@@ -11,7 +11,7 @@ what PROGRAM says of the trace of what was recorded, byte for byte. Some hundred
 ThreadSanitizer, and some of each kind under Valgrind.
 misuse.c uses each call wrongly, refuses memory, forks and leaves in mid-course; partial.c leaves events out, and goes
 on in a second session; order.c tells the same by numbers in two orders, and their reports by mention have to be the
-same; wrapper.cc, forms.cc and busy.cc are of goodlock.hpp, names.c of goodlock_names.h, as C and as C++, by many threads and by all short
+same; wrapper.cc, forms.cc, busy.cc and parts.cc are of goodlock.hpp, names.c of goodlock_names.h, as C and as C++, by many threads and by all short
 schedules of two or three; debug.c breaks each promise that goodlock_debug.h checks, and the tests above that keep them
 are run with GOODLOCK_DEBUG, too, in which they say the same. Every run has a limit of time. The last line is `N passed,
 N failed`, with `, N skipped` behind it where tools are missing: each is named. PART: headers, examples, wrapper, names,
@@ -527,8 +527,21 @@ class Tests:
                 else:  # optimised by one standard, as no line of goodlock.hpp depends on it
                     words = OPTIMISED if standard == "c++17" else AS_WRITTEN
                     self.forms(f"{compiler} {standard}", compiler, standard, *words)
+        self.parts("g++")
         if shutil.which("clang++") is not None:
             self.busy("clang++", "clang++", "c++20", *OPTIMISED)
+            self.parts("clang++")
+
+    def parts(self, compiler):
+        """goodlock.hpp in a program and in a library that it opens, also where both hide what they needn't show."""
+        hidden = ["-fvisibility=hidden", "-fvisibility-inlines-hidden"]
+        for words in ([], hidden[:1], hidden):
+            name = "_".join(["parts", compiler, *words])
+            c = [compiler, "-std=c++11", *STRICT, f"-I{HEADERS}", *OPTIMISED, *words]
+            if not self.build(f"lib{name}.so", *c, "-shared", "-fPIC", HERE / "part.cc", ARCHIVE, "-lpthread"):
+                return
+            if self.build(name, *c, "-rdynamic", HERE / "parts.cc", ARCHIVE, "-lpthread", "-ldl"):
+                self.counted(f"parts, {compiler} {' '.join(words)}", name, f"./lib{name}.so", cwd=self.folder)
 
     def busy(self, name, compiler, standard, *words):
         """goodlock.hpp where more is recorded than can be pulled, and while the session ends."""
