@@ -14,6 +14,7 @@ pub mod NameBytes
 pub mod NumberedLines
 pub mod PieceByPiece
 pub mod PiecesAhead
+pub mod ReadBehind
 pub mod Places
 pub mod RuledLines
 pub mod Shapes

@@ -1,6 +1,8 @@
 //! Reading ahead: what the reads give is cut into lines before it is judged.
-ghost use Rattle.std.specs.Prelude.{◌≡◌, ◌+◌, ◌<◌, ◌≤◌, List, [], ◌∷◌, ◌++◌, Contains, false, length, Ok, Some, vec_len, IfOk, IfSome};
+ghost use Rattle.std.specs.Prelude.{◌≡◌, ◌+◌, ◌<◌, ◌≤◌, List, [], ◌∷◌, ◌++◌, Contains, false, drop, is_err, length, take, Ok, Some, vec_len, IfOk, IfSome, OnErr};
+ghost use Rattle.std.specs.Io.KnownBytes.{Consumes, IsAtEnd, Keeps};
 ghost use Rattle.gl_event.specs.declared.events.Event.{Event};
+ghost use Rattle.gl_io.specs.Positions.{LieBetween};
 ghost use Rattle.gl_io.specs.declared.source.TheConstants.{CHUNK};
 ghost use Rattle.gl_std.specs.Line.{cut_at};
 ghost use Rattle.gl_std.specs.Lines.{LF};
@@ -108,6 +110,23 @@ impl Piece {
     }
 }
 
+// One read into a buffer, behind its first bytes, so many, which stay as they are.
+fn read_behind<R: Source>(input: &mut R, buffer: &mut [u8], first: usize) -> Result<usize, Failed>
+    requires not_failed { R.failed input.old ≡ false }
+    requires room { first < length buffer.old }
+    ensures front { take first buffer.new ≡ take first buffer.old }
+    ensures size { length buffer.new ≡ length buffer.old }
+    ensures fits { IfOk result (λ count. first + count ≤ length buffer.new) }
+    ensures bytes { IfOk result (λ count. Consumes (R.position input.old).left
+        (R.position input.new).left (take count (drop first buffer.new))) }
+    ensures end { IfOk result (λ count. count ≡ 0 → IsAtEnd (R.position input.new).left) }
+    ensures kept { OnErr result (Keeps (R.position input.old).left (R.position input.new).left) }
+    ensures counted { LieBetween 1 (R.position input.old) (R.position input.new) }
+    ensures failed { R.failed input.new ≡ is_err result }
+{
+    input.read(&mut buffer[first..])
+}
+
 impl LineReader {
     /// Reads on until there are so many pieces more, in the memory of those that are spare.
     pub(crate) fn read_ahead<R: Source>(
@@ -180,7 +199,7 @@ impl LineReader {
         }
     }
 
-    // Adds what one read gives to a piece, where that is something.
+    // Adds what one read gives to a piece, where that is something. It is read into the piece itself.
     fn read_more<R: Source>(
         &mut self,
         input: &mut R,
@@ -195,13 +214,22 @@ impl LineReader {
         if self.turns == 0 {
             return Ok(Ending::Broke);
         }
-        match self.fill(input) {
-            Ok(true) => {
-                piece.text.extend_from_slice(&self.buffer[..self.end])?;
+        let first = piece.text.len();
+        piece.text.resize(first + CHUNK, 0)?;
+        self.turns -= 1;
+        match read_behind(input, piece.text.as_mut_slice(), first) {
+            Ok(0) => {
+                piece.text.truncate(first);
+                Ok(Ending::End)
+            }
+            Ok(count) => {
+                piece.text.truncate(first + count);
                 Ok(Ending::More)
             }
-            Ok(false) => Ok(Ending::End),
-            Err(Failed) => Ok(Ending::Broke),
+            Err(Failed) => {
+                piece.text.truncate(first);
+                Ok(Ending::Broke)
+            }
         }
     }
 
