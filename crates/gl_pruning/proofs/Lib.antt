@@ -9,6 +9,7 @@ pub mod Back
 pub mod ByKinds
 pub mod Closing
 pub mod Fewer
+pub mod Gated
 pub mod InComponents
 pub mod InShares
 pub mod OfOneKind

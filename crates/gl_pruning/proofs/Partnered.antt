@@ -17,7 +17,7 @@ use Rattle.gl_pruning.proofs.Apart.{beside, next_edge, edge_before}
 use Rattle.gl_pruning.proofs.Back.{kept_at}
 
 -- an edge may stand beside another one only where they share a lock
-shares_lock : (before : Segment → Segment → Bool) (mode : Mode) (side : Side) (e f : Edge) → is_beside before mode side e f ≡ true → lock_towards (opposite side) f ≡ lock_towards side e
+pub shares_lock : (before : Segment → Segment → Bool) (mode : Mode) (side : Side) (e f : Edge) → is_beside before mode side e f ≡ true → lock_towards (opposite side) f ≡ lock_towards side e
 shares_lock before mode Follower e f fits = sym (beside before mode e f fits).0
 shares_lock before mode Leader e f fits = (beside before mode f e fits).0
 

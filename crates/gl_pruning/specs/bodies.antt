@@ -5,6 +5,7 @@ pub mod Epochs
 pub mod Exclusions
 pub mod Flags
 pub mod Gaps
+pub mod Gates
 pub mod Kinds
 pub mod Loops
 pub mod Numbers

@@ -30,6 +30,7 @@ mod dead_ends;
 mod epochs;
 mod exclusions;
 mod far;
+mod gates;
 mod grains;
 mod kinds;
 mod labels;

@@ -163,7 +163,7 @@ impl Sought<'_> {
     }
 
     /// Leaves out edges that none may follow, or none may lead, as long as there are any and so many may still be looked
-    /// at.
+    /// at; first those of which this is seen without a look at others, since they are barred.
     pub(crate) fn leave_out_stuck(
         &self,
         alloc: Global,
@@ -173,6 +173,8 @@ impl Sought<'_> {
         requires { KeepsSought self.now kept.old.items }
         ensures { OnOk result (GoesOnSeeking self.now kept.old.items kept.new.items) }
     {
+        self.leave_out_barred(alloc, Side::Follower, kept)?;
+        self.leave_out_barred(alloc, Side::Leader, kept)?;
         let mut followers = Partners::of(alloc, self, Side::Follower, kept)?;
         let mut leaders = Partners::of(alloc, self, Side::Leader, kept)?;
         for _pass in 0..PASSES {

@@ -25,6 +25,8 @@ pub(super) enum Ask {
     Count(Mode, u32, usize),
     // how many edges of the mode are kept at first
     AtFirst(Mode, usize),
+    // how many are still where no two edges are looked at to leave others out
+    Effortless(Mode, usize),
     // how many edges a cycle of the mode can have, of at most so many, as far as threads and gate locks tell
     Longest(Mode, u32, usize),
     // how many edges a cycle of the mode with each edge can have, of at most so many, as far as components tell
@@ -49,6 +51,7 @@ pub(super) fn answers<R: Threads + Sync>(rt: &R, alloc: Global, known: &Known, a
         Ask::Sought(mode, len, wanted) => is_sought(rt, alloc, known, (mode, len), wanted),
         Ask::Count(mode, len, wanted) => is_count(rt, alloc, known, (mode, len), wanted),
         Ask::AtFirst(mode, wanted) => count_at_first(alloc, known, mode) == Some(wanted),
+        Ask::Effortless(mode, wanted) => count_effortless(alloc, known, mode) == Some(wanted),
         Ask::Longest(mode, len, wanted) => longest(alloc, known, (mode, len)) == Some(wanted),
         Ask::Limits(mode, len, wanted) => is_limited(alloc, known, (mode, len), wanted),
         Ask::Trimmed(mode, kept, removed) => is_trimmed(alloc, known, mode, kept, removed),
@@ -160,6 +163,15 @@ fn count_at_first(alloc: Global, known: &Known, mode: Mode) -> Option<usize> {
     let query = query_for((mode, 4, 1))?;
     let sought = Sought::of(&known.edges, &known.order, &query);
     let kept = sought.kept_at_first(alloc).ok()?;
+    Some(count_set(&kept))
+}
+
+// How many edges are kept where others are left out with no effort.
+fn count_effortless(alloc: Global, known: &Known, mode: Mode) -> Option<usize> {
+    let query = query_for((mode, 4, 1))?;
+    let sought = Sought::of(&known.edges, &known.order, &query);
+    let mut kept = sought.kept_at_first(alloc).ok()?;
+    sought.leave_out_in_turn(alloc, 0, &mut kept).ok()?;
     Some(count_set(&kept))
 }
 

@@ -3,7 +3,7 @@ use super::asks::Ask;
 use super::lists::Lists::{Apart, Pairs, Rings, Told, UnderGates};
 use super::{Case, expect, expect_all};
 use gl_filters::Mode;
-use gl_worked::ops::Op::{Acq, Fork, Join, Rel};
+use gl_worked::ops::Op::{Acq, Fork, Join, Racq, Rel};
 
 const CASES: &[Case] = &[
     // Each edge of the ring goes with edges that lead back from it, but of four edges under two gate
@@ -25,6 +25,50 @@ const CASES: &[Case] = &[
             Ask::Longest(Mode::Basic, 3, 3),
             Ask::Longest(Mode::Guarded, 8, 2),
             Ask::Longest(Mode::Full, 8, 2),
+        ],
+    },
+    // Two threads take two locks while they hold a third one shared, and one takes them the other way round while it
+    // holds that alone: it has no follower, since each of these is made under the lock. The edges from the third lock
+    // lie on no loop.
+    Case {
+        name: "barred",
+        lists: Told(&[
+            &[Racq(9, 1), Acq(0, 2), Acq(1, 3)],
+            &[Racq(9, 1), Acq(0, 2), Acq(1, 3)],
+            &[Acq(9, 1), Acq(1, 2), Acq(0, 3)],
+        ]),
+        asks: &[
+            Ask::Effortless(Mode::Basic, 3),
+            Ask::Effortless(Mode::Guarded, 0),
+            Ask::Effortless(Mode::Full, 0),
+        ],
+    },
+    // The same, but one of the two doesn't hold the third lock: it makes a cycle with the last one. No two edges are looked
+    // at, so the other one's stays too.
+    Case {
+        name: "barred, but for one",
+        lists: Told(&[
+            &[Racq(9, 1), Acq(0, 2), Acq(1, 3)],
+            &[Acq(0, 2), Acq(1, 3)],
+            &[Acq(9, 1), Acq(1, 2), Acq(0, 3)],
+        ]),
+        asks: &[
+            Ask::Effortless(Mode::Guarded, 3),
+            Ask::All(Mode::Guarded, 2, &[&[3, 4]]),
+        ],
+    },
+    // The one that holds the third lock alone has a follower that doesn't hold it, but no leader: the thread that goes on from
+    // that follower to the lock which it holds has the third one shared.
+    Case {
+        name: "barred from its leaders",
+        lists: Told(&[
+            &[Racq(9, 1), Acq(2, 2), Acq(1, 3)],
+            &[Acq(0, 2), Acq(2, 3)],
+            &[Acq(9, 1), Acq(1, 2), Acq(0, 3)],
+        ]),
+        asks: &[
+            Ask::Effortless(Mode::Basic, 3),
+            Ask::Effortless(Mode::Guarded, 0),
         ],
     },
     // Round the ring go four edges, of four threads. Each edge goes with edges of two others that lead
