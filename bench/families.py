@@ -355,11 +355,161 @@ def offsets(draw, offsets=9, threads_of_offset=1, shuffles=1):
             yield from nested(f"thread{offset}.{thread}", f"offset{offset}.c", pair)
 
 
+def rearranged(draw, threads=7, stripes=31, sections=140, depth=6, shared=0.5, disorder=0.0, resizes=15):
+    """A hash table with striped locks, each taken shared or alone: a call takes the stripes of its keys by number, with
+    the table's lock shared, and a resize takes all, or 40, in any order with that lock alone. Only resizes step back,
+    from everywhere to everywhere, and none of their edges is in a cycle."""
+    for thread, section in itertools.product(range(threads), range(sections)):
+        numbers = sorted({draw.randrange(stripes) for _ in range(depth)})
+        if draw.random() < disorder:
+            numbers.reverse()
+        words = ["racq", *("racq" if draw.random() < shared else "acq" for _ in numbers)]
+        taken = ["table", *(f"stripe{number}" for number in numbers)]
+        yield from nested(f"thread{thread}", f"table{section % PIECES}.c", taken, words)
+    for resize in range(resizes):
+        taken = ["table", *drawn(draw, "stripe", stripes, min(stripes, 40))]
+        yield from nested(f"thread{resize % threads}", "resize.c", taken)
+
+
+def kept_out(draw, kinds=5, threads_of_kind=10, locks=12, sections=13, depth=6, disorder=0.1, alone=1.0):
+    """Kinds of threads with a gate each: a section holds all gates, its own kind's alone and the others shared, and
+    takes locks by number, every second kind downwards but for a few in any order. No two sections go together, but
+    which gate keeps them apart is another one for each kind."""
+    gates = [f"gate{kind}" for kind in range(kinds)]
+    threads_of_kinds = itertools.product(range(kinds), range(threads_of_kind))
+    for (kind, thread), section in itertools.product(threads_of_kinds, range(sections)):
+        words = ["acq" if gate == kind and draw.random() < alone else "racq" for gate in range(kinds)]
+        numbers = draw.sample(range(locks), depth)
+        if draw.random() >= disorder:
+            numbers.sort(reverse=kind % 2 == 1)
+        taken = [*gates, *(f"lock{number}" for number in numbers)]
+        yield from nested(f"kind{kind}.{thread}", f"kind{kind}.{section % PIECES}.c", taken, words)
+
+
+def splits(draw, threads=14, nodes=12, sections=70, depth=6, split=0.1, disorder=0.0, is_held_by_searches=False):
+    """A tree of an index: a search takes nodes shared one inside the other, and now and then takes them again alone and
+    upwards to split them, under one lock for that, which searches may hold shared too; with disorder nodes are taken as
+    they come. All cycles are of one search and one split, but searches lead from each split to very many others."""
+    order = [f"node{number}" for number in range(nodes)]
+    outer = ["splitting"] if is_held_by_searches else []
+    for thread, section in itertools.product(range(threads), range(sections)):
+        path = in_order(draw, order, depth)
+        if draw.random() < disorder:
+            draw.shuffle(path)
+        taken = [*outer, *path]
+        yield from nested(f"thread{thread}", f"search{section % PIECES}.c", taken, itertools.repeat("racq"))
+        if draw.random() < split:
+            yield from nested(f"thread{thread}", f"split{section % PIECES}.c", ["splitting", *path[::-1]])
+
+
+def intents(
+    draw, threads=50, tables=2, pages=3, rows=11, sections=8, rows_of_section=5, escalated=0.0, by_name=0.0, slots=3,
+    definitions=20,
+):  # fmt: skip
+    """A lock manager whose statements run in one of few slots and lock some rows, shared or alone, each behind its
+    table, shared, and its page, mostly shared; a definition takes the catalogue and then tables alone. A cycle has at
+    most one edge of each slot and one of definitions, and hardly any two sections have the same guards."""
+    for thread, section in itertools.product(range(threads), range(sections)):
+        taken = {"database": "racq", f"slot{draw.randrange(slots)}": "acq"}
+        chosen = [draw.randrange(tables) for _ in range(rows_of_section)]
+        if draw.random() < by_name:
+            chosen.sort()
+        for table in chosen:
+            if draw.random() < escalated:
+                taken.setdefault(f"table{table}", "acq")
+                continue
+            page = f"table{table}.page{draw.randrange(pages)}"
+            taken.setdefault(f"table{table}", "racq")
+            taken.setdefault(page, "racq" if draw.random() < 0.8 else "acq")
+            taken.setdefault(f"{page}.row{draw.randrange(rows)}", "racq" if draw.random() < 0.5 else "acq")
+        yield from nested(f"session{thread}", f"statement{section % PIECES}.c", taken, taken.values())
+    for _ in range(definitions):
+        defined = drawn(draw, "table", tables, min(tables, 3))
+        yield from nested("definer", "define.c", ["database", "catalogue", *defined], ["racq"])
+
+
+def generations(
+    draw, generations=12, threads_of_generation=4, locks=31, sections=29, depth=5, overlap=0, lasting=4,
+    sections_of_lasting=3,
+):  # fmt: skip
+    """A pool whose threads are replaced, each generation by one that takes locks the other way round, beside a few
+    lasting threads that run some sections in the time of each. Cycles are through lasting threads alone unless
+    generations overlap, but in the graph of locks each edge has its way back."""
+    order = [f"lock{number}" for number in range(locks)]
+    threads = range(threads_of_generation)
+    for generation in range(generations):
+        own = order[::-1] if generation % 2 else order
+        yield from (f"main|fork(pool{generation}.{number})|main.c:5" for number in threads)
+        for number, section in itertools.product(threads, range(sections)):
+            yield from nested(f"pool{generation}.{number}", f"task{section % PIECES}.c", in_order(draw, own, depth))
+        for number, section in itertools.product(range(lasting), range(sections_of_lasting)):
+            yield from nested(f"lasting{number}", f"watch{section % PIECES}.c", in_order(draw, order, depth))
+        if generation >= overlap:
+            yield from (f"main|join(pool{generation - overlap}.{number})|main.c:6" for number in threads)
+
+
+def eviction(draw, threads=13, buckets=5, lists=5, items=200, sections=170, evicted=0.2, tried=0.0):
+    """A cache: a call takes a bucket, an item, the bucket's list by age, and in every fifth section the lock of the
+    slabs last; an eviction begins with that one, and takes a list, an item and two buckets, which it may try. A cycle
+    has one edge of an eviction and four in all at most, but evictions lead back from each item and list."""
+    for thread, section in itertools.product(range(threads), range(sections)):
+        bucket, item = draw.randrange(buckets), f"item{draw.randrange(items)}"
+        if draw.random() < evicted:
+            emptied = dict.fromkeys(f"bucket{draw.randrange(buckets)}" for _ in range(2))
+            taken, code = ["slabs", f"list{bucket % lists}", item, *emptied], "evict"
+            words = ["acq", "acq", *("tryacq" if draw.random() < tried else "acq" for _ in taken[2:])]
+        else:
+            taken, code, words = [f"bucket{bucket}", item, f"list{bucket % lists}"], "get", []
+            taken += ["slabs"] if section % 5 == 0 else []
+        yield from nested(f"thread{thread}", f"{code}{section % PIECES}.c", taken, words)
+
+
+def spatial(draw, frames=3, threads_of_frame=14, sections=18, side=12, block=3, by_column=0.03, in_world=0.3):
+    """A simulation whose tasks lock a square block of cells, by row but for a few by column, some with the world's lock
+    shared; the tasks of a frame are joined before those of the next one are forked, which go the other way round. Ways
+    between cells are very many, and nearly all rings would have tasks of two frames."""
+    for frame in range(frames):
+        threads = [f"task{frame}.{number}" for number in range(threads_of_frame)]
+        yield from (f"main|fork({thread})|main.c:5" for thread in threads)
+        for thread, section in itertools.product(threads, range(sections)):
+            row, column = draw.randrange(side), draw.randrange(side)
+            steps = itertools.product(range(block), repeat=2)
+            cells = sorted({((row + down) % side, (column + right) % side) for down, right in steps})
+            if draw.random() < by_column:
+                cells.sort(key=lambda cell: cell[::-1])
+            if frame % 2 == 1:
+                cells.reverse()
+            outer = ["world"] if draw.random() < in_world else []
+            taken = [*outer, *(f"cell{row}.{column}" for row, column in cells)]
+            yield from nested(thread, f"update{section % PIECES}.c", taken, ["racq"] * len(outer))
+        yield from (f"main|join({thread})|main.c:6" for thread in threads)
+
+
+def wavefront(draw, rows=12, columns=12, locks=18, sections=10, depth=5, is_alternating=True):
+    """A computation of a table, with a thread for each cell, which begins when those above it and to its left are over,
+    and takes locks by number, in every second row downwards. A cell is there together with those above it to the right
+    and below it to the left alone, which no two times of each cell, of its beginning and its end, could tell."""
+    order = [f"lock{number}" for number in range(locks)]
+    cells = sorted(itertools.product(range(rows), range(columns)), key=sum)
+    yield from (f"main|fork(cell{row}.{column})|main.c:5" for row, column in cells)
+    for row, column in cells:
+        thread = f"cell{row}.{column}"
+        if row > 0:
+            yield f"{thread}|join(cell{row - 1}.{column})|cell.c:5"
+        if column > 0:
+            yield f"{thread}|join(cell{row}.{column - 1})|cell.c:6"
+        own = order[::-1] if is_alternating and row % 2 == 1 else order
+        for section in range(sections):
+            yield from nested(thread, f"cell{section % PIECES}.c", in_order(draw, own, depth))
+    yield from (f"main|join(cell{row}.{column})|main.c:6" for row, column in cells[-1:])
+
+
 FAMILIES = {
     family.__name__.replace("_", "-"): family
     for family in (
         modules, subsystems, gate_subsets, pool, pipeline, database, hierarchy, turnstile, cohorts, handover, grid,
         work_stealing, stripes, shards, recursive, back_off, gui, frames, actors, offsets,
+        rearranged, kept_out, splits, intents, generations, eviction, spatial, wavefront,
     )
 }  # fmt: skip
 

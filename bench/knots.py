@@ -189,6 +189,15 @@ SHAPES = {
     "gui": {"small": [""], "large": ["--gated 1 --gates 1 --inner 0"]},
     "frames": {"small": [""], "large": ["--no-rendered"]},
     "actors": {"small": [""], "large": ["--dispatched 0"]},
+    # Small traces, of 10,000 to 16,000 events, whose guards, modes or segments keep a search busy for long.
+    "rearranged": {"small": ["--sections 60 --resizes 6"], "large": [""]},
+    "kept-out": {"small": ["--kinds 3 --threads-of-kind 8"], "large": [""]},
+    "splits": {"small": ["--threads 7 --sections 50"], "large": ["", "--disorder 1"]},
+    "intents": {"small": ["--threads 25"], "large": [""]},
+    "generations": {"small": ["--generations 6 --locks 22 --depth 4"], "large": [""]},
+    "eviction": {"small": ["--threads 7"], "large": [""]},
+    "spatial": {"small": ["--threads-of-frame 7"], "large": [""]},
+    "wavefront": {"small": ["--rows 8 --columns 8"], "large": [""]},
     # Two of them in one program, as parts that know nothing of each other: what helps one of both doesn't help the other.
     TOGETHER: {
         "small": ["early-and-late --threads 600 + nested-locks", "few-threads --segments 100 + windows"],

@@ -7,9 +7,11 @@ PROGRAM is goodlock's (the carried one): its `stats` says whether a trace is law
 """
 
 import functools
+import itertools
 import math
 import os
 import pathlib
+import string
 import subprocess
 import sys
 
@@ -104,6 +106,24 @@ CYCLES_TAKEN_AWAY = [
     ("gate-subsets --gates 3 --gates-of-section 1", "gate-subsets --gates 3 --gates-of-section 1 --aside 1"),
     # twice an offset and then the next one
     ("offsets --offsets 5", "offsets --offsets 5 --threads-of-offset 2"),
+    # all that is out of order is under the table's lock, held alone
+    ("rearranged --sections 60", "rearranged --sections 60 --disorder 0.02"),
+    # of any two sections one holds a gate alone that the other one holds too
+    ("kept-out", "kept-out --alone 0.9"),
+    # none reads while a node is split, or nothing but reads
+    ("splits --held-by-searches", "splits --sections 30"),
+    ("splits --split 0", "splits --split 0.01"),
+    # one statement at a time
+    ("intents --slots 1 --definitions 0", "intents --slots 2 --definitions 0"),
+    # each generation has one order, and is over before the next one
+    ("generations --lasting 0", "generations --lasting 0 --overlap 1"),
+    # a bucket, an item, a list, the slabs
+    ("eviction --evicted 0", "eviction --threads 4"),
+    # each frame has one order, and is over before the next one
+    ("spatial --by-column 0", "spatial --by-column 0.1 --threads-of-frame 7"),
+    # always one order; one after the other
+    ("wavefront --no-alternating", "wavefront --rows 4"),
+    ("wavefront --columns 1", "wavefront --columns 2"),
 ]
 
 
@@ -451,10 +471,196 @@ def test_cycles_of_a_grid_go_round():
     assert counted["cycles"] == (4 + 4) * math.perm(5, 4)
 
 
-@pytest.mark.parametrize("words", ["handover", "handover --no-gated", "recursive --gated 1"])
+@pytest.mark.parametrize(
+    "words",
+    [
+        "handover",
+        "handover --no-gated",
+        "recursive --gated 1",
+        "splits --threads 4 --sections 30",
+        # one slot, and the catalogue
+        "intents --slots 1 --threads 8",
+    ],
+)
 def test_cycles_in_a_tree_or_under_two_gates_have_two_edges(words):
     two, four = (stats_of(made_of_family(words), "--len", most, "--max", "100000")["cycles"] for most in "24")
     assert 0 < two == four < 100_000
+
+
+@pytest.mark.parametrize(
+    "words, most",
+    [
+        # statements in two slots and a definition
+        ("intents --slots 2 --threads 8 --sections 4 --definitions 2", 3),
+        # a bucket, an item, a list, the slabs, and an eviction from there to the bucket
+        ("eviction --lists 2 --threads 4 --sections 40 --items 8", 4),
+        # who has an item and wants a list has the bucket of who has that list
+        ("eviction --threads 4 --sections 40 --items 8", 3),
+    ],
+)
+def test_longest_cycles_of_a_family_have_so_many_edges(words, most):
+    counted = [
+        stats_of(made_of_family(words), "--len", str(length), "--max", "100000")["cycles"]
+        for length in (most - 1, most, most + 2)
+    ]
+    assert counted[0] < counted[1] == counted[2] < 100_000
+
+
+def edges_of(text):
+    """The thread of each edge, the lock that is held and the one that is wanted, and the word of each lock that the thread
+    holds then, and of this one, in their order."""
+    held = {}
+    for thread, word, lock in calls_of(text):
+        words = held.setdefault(thread, {})
+        if word in ("rel", "rrel"):
+            del words[lock]
+        elif word not in ("fork", "join"):
+            assert lock not in words
+            outer, words[lock] = [*words], word
+            if "try" not in word:
+                yield from ((thread, other, lock, {**words}) for other in outer)
+
+
+def number_of(lock):
+    return int(lock.lstrip(string.ascii_letters))
+
+
+def test_stripes_are_rearranged_under_the_table_alone_and_read_by_number():
+    seen = set()
+    for _, outer, lock, words in edges_of(made_of_family("rearranged")):
+        assert next(iter(words)) == "table"
+        if outer != "table":
+            seen.add((words["table"], number_of(outer) < number_of(lock)))
+    assert seen == {("racq", True), ("acq", True), ("acq", False)}
+    assert {thread for thread, *_, words in edges_of(made_of_family("rearranged")) if words["table"] == "acq"} == {
+        f"thread{number}" for number in range(7)
+    }
+
+
+def test_no_two_sections_of_kept_out_go_together():
+    gates, guards, is_upward = [f"gate{kind}" for kind in range(5)], {}, {}
+    for thread, outer, lock, words in edges_of(made_of_family("kept-out")):
+        assert [*words][:5] == gates[: len(words)]
+        if outer not in gates:
+            kind = thread.partition(".")[0]
+            guards.setdefault(kind, set()).add(tuple(words[gate] for gate in gates))
+            is_upward.setdefault(kind, []).append(number_of(outer) < number_of(lock))
+    assert {*guards} == {f"kind{kind}" for kind in range(5)} and all(len(those) == 1 for those in guards.values())
+    those = {*itertools.chain(*guards.values())}
+    assert len(those) == 5 and all(one.count("acq") == 1 for one in those)
+    for one, other in itertools.product(those, repeat=2):
+        assert any("acq" in pair for pair in zip(one, other))
+    share = [sum(is_upward[f"kind{kind}"]) / len(is_upward[f"kind{kind}"]) for kind in range(5)]
+    assert min(share[0::2]) > 0.9 and max(share[1::2]) < 0.1
+
+
+@pytest.mark.parametrize("options, of_searches", [("", None), ("--disorder 1", None), ("--held-by-searches", "racq")])
+def test_what_isnt_shared_is_under_one_lock_in_splits(options, of_searches):
+    seen, ways = set(), set()
+    for _, outer, lock, words in edges_of(made_of_family(f"splits {options}".strip())):
+        assert lock != "splitting"
+        if outer != "splitting":
+            seen.add((words[outer], words[lock], words.get("splitting")))
+            ways.add((words[lock], number_of(outer) < number_of(lock)))
+    assert seen == {("racq", "racq", of_searches), ("acq", "acq", "acq")}
+    both = {("racq", False), ("acq", True)}
+    assert ways == {("racq", True), ("acq", False), *(both if "--disorder" in options else ())}
+
+
+def test_each_statement_is_in_a_slot_and_only_definitions_hold_tables_alone():
+    slots, seen = set(), set()
+    for _, _, lock, words in edges_of(made_of_family("intents")):
+        first, gate = [*words][:2]
+        assert (first, words[first], words[gate]) == ("database", "racq", "acq")
+        slots.add(gate)
+        kind = "".join(letter for letter in lock if letter not in string.digits)
+        assert all(name in words for name in (lock.rpartition(".row")[0], lock.rpartition(".page")[0]) if name)
+        if lock != gate:
+            seen.add((gate.rstrip(string.digits), kind, words[lock]))
+    both = {("slot", kind, word) for kind in ("table.page", "table.page.row") for word in ("racq", "acq")}
+    assert slots == {"slot0", "slot1", "slot2", "catalogue"}
+    assert seen == {("slot", "table", "racq"), ("catalogue", "table", "acq"), *both}
+
+
+@pytest.mark.parametrize("overlap", [0, 2])
+def test_each_generation_goes_the_other_way_round(overlap):
+    text, there, most = made_of_family(f"generations --overlap {overlap}"), set(), 0
+    for thread, word, name in calls_of(text):
+        if word == "fork":
+            there.add(name)
+        elif word == "join":
+            there.remove(name)
+        else:
+            assert thread in there or thread.startswith("lasting")
+        most = max(most, len({name.partition(".")[0] for name in there}))
+    assert most == overlap + 1
+    orders = {}
+    for thread, outer, lock, _ in edges_of(text):
+        orders.setdefault(thread.partition(".")[0], set()).add(number_of(outer) < number_of(lock))
+    own = {f"pool{generation}": {generation % 2 == 0} for generation in range(12)}
+    assert orders == {**own, **{f"lasting{number}": {True} for number in range(4)}}
+
+
+@pytest.mark.parametrize("tried", ["0", "0.5"])
+def test_a_cache_has_one_order_but_for_evictions_under_the_slabs(tried):
+    ranks, seen, tries = ["bucket", "item", "list", "slabs"], set(), 0
+    text = made_of_family(f"eviction --tried {tried}")
+    for _, outer, lock, words in edges_of(text):
+        before, after = (ranks.index(name.rstrip(string.digits)) for name in (outer, lock))
+        is_eviction = next(iter(words)) == "slabs"
+        assert (before < after) != is_eviction
+        seen.add((is_eviction, before, after))
+    assert {pair[1:] for pair in seen if not pair[0]} == {*itertools.combinations(range(4), 2)}
+    assert {pair[1:] for pair in seen if pair[0]} == {(3, 2), (3, 1), (3, 0), (2, 1), (2, 0), (1, 0), (0, 0)}
+    for _, word, lock in calls_of(text):
+        tries += word == "tryacq"
+        assert word != "tryacq" or lock.startswith(("item", "bucket"))
+    assert (tries > 0) == (tried != "0")
+
+
+@pytest.mark.parametrize("by_column", [0, 1])
+def test_a_task_locks_a_block_of_cells_and_each_frame_goes_the_other_way_round(by_column):
+    text, there, frames = made_of_family(f"spatial --by-column {by_column}"), set(), []
+    for thread, word, name in calls_of(text):
+        if word == "fork":
+            frames += [] if there else [{name.partition(".")[0]}]
+            there.add(name)
+        elif word == "join":
+            there.remove(name)
+        else:
+            assert thread in there and {thread.partition(".")[0]} == frames[-1]
+            assert (name == "world") <= (word in ("racq", "rrel"))
+    assert frames == [{f"task{frame}"} for frame in range(3)]
+    orders, steps = {}, {0, 1, 2, 9, 10, 11, -1, -2, -9, -10, -11}
+    for thread, outer, lock, words in edges_of(text):
+        if outer != "world":
+            places = [[int(part) for part in name[4:].split(".")] for name in (outer, lock)]
+            assert {one - other for one, other in zip(*places)} <= steps
+            before, after = (place[::-1] if by_column else place for place in places)
+            orders.setdefault(thread.partition(".")[0], set()).add(before < after)
+            assert len([name for name in words if name != "world"]) <= 9
+    assert orders == {"task0": {True}, "task1": {False}, "task2": {True}}
+
+
+def test_a_cell_begins_when_those_above_and_to_the_left_are_over():
+    before, begun, ended, orders = {}, set(), set(), {}
+    text = made_of_family("wavefront --rows 4 --columns 5")
+    for thread, word, name in calls_of(text):
+        if word == "join" and thread != "main":
+            assert thread not in begun
+            before.setdefault(thread, set()).update({name}, before.get(name, ()))
+            ended.add(name)
+        elif word == "acq":
+            assert thread not in ended
+            begun.add(thread)
+    cells = {f"cell{row}.{column}": (row, column) for row in range(4) for column in range(5)}
+    assert begun == {*cells}
+    for cell, (row, column) in cells.items():
+        those = {name for name, (above, left) in cells.items() if above <= row and left <= column and name != cell}
+        assert before.get(cell, set()) == those
+    for thread, outer, lock, _ in edges_of(text):
+        orders.setdefault(cells[thread][0], set()).add(number_of(outer) < number_of(lock))
+    assert orders == {0: {True}, 1: {False}, 2: {True}, 3: {False}}
 
 
 def test_tries_make_no_edges():
