@@ -15,7 +15,7 @@ use Rattle.std.proofs.lemmas.Option.{slice_get-map, slice_get_within}
 use Rattle.gl_event.specs.Bounds.{Bounds}
 use Rattle.gl_event.specs.declared.notes.Note.{Note}
 use Rattle.gl_intake.specs.Stream.{events_of, has_ended, logs_of, note_refusal}
-use Rattle.gl_lane.specs.Lanes.{AllPushed, Popping}
+use Rattle.gl_lane.specs.OwnLanes.{AllOwnPushed, OwnPopping}
 use Rattle.gl_edges.specs.Edges.{once, edges}
 use Rattle.gl_edges.specs.declared.edge.Edge.{Edge}
 use Rattle.gl_edges.specs.declared.edge.Sample.{Sample}
@@ -77,7 +77,7 @@ its_notes : (limits : Bounds) (thread : ℕ) (came : List Note) (r : Closed) →
 its_notes limits thread came r its same is = subst (λ t. AreNotesOf limits t r.pushed) its (subst (λ b. AreNotesOf b r.thread r.pushed) same is.notes)
 
 -- a thread with its receipt has had all collected that it recorded
-pub all_recorded : (limits : Bounds) (thread : ℕ) (stream : List Note) (lane : Popping) (r : Closed) → r.thread ≡ thread → r.limits ≡ limits → IsConfirmed (handed lane) r
+pub all_recorded : (limits : Bounds) (thread : ℕ) (stream : List Note) (lane : OwnPopping) (r : Closed) → r.thread ≡ thread → r.limits ≡ limits → IsConfirmed (handed lane) r
     → notes_of thread stream ≡ map (as_of thread) lane.popped → has_ended thread stream ≡ true → events_of thread stream ≡ recorded_whole r
 all_recorded limits thread stream lane r its same is told ended =
     let rest : List Note = lane.left ++ is.begins.0 in
@@ -113,14 +113,14 @@ pub input_at : (inputs : List LaneInput) (i : ℕ) (input : LaneInput) → i < l
 input_at inputs i input within is = slice_get-map pulling_of inputs i ∙ ap (option_map pulling_of) (get_at inputs i input within is)
 
 -- the inputs after one lane was confirmed
-pub inputs_same : (inputs : List LaneInput) (i : ℕ) (input : LaneInput) (lane : Popping) → input ≡ get_or inputs i input → lane.lane ≡ input.lane.lane → lane.popped ≡ input.lane.popped
+pub inputs_same : (inputs : List LaneInput) (i : ℕ) (input : LaneInput) (lane : OwnPopping) → input ≡ get_or inputs i input → lane.lane ≡ input.lane.lane → lane.popped ≡ input.lane.popped
     → map pulling_of (set inputs i (record input { lane = lane })) ≡ map pulling_of inputs
 inputs_same inputs i input lane is same popped =
     let seen : pulling_of (record input { lane = lane }) ≡ pulling_of input = (λ j. record { lane = same j; popped = popped j; broken = input.broken }) in
     map-set_same pulling_of inputs i (record input { lane = lane }) input (seen ∙ ap pulling_of is)
 
 -- a lane that was confirmed
-pub confirmed_input : (inputs : List LaneInput) (i session thread : ℕ) (limits : Bounds) (input : LaneInput) (lane : Popping) (f : AllPushed) → i ≡ thread → i < length inputs → input ≡ get_or inputs i input
+pub confirmed_input : (inputs : List LaneInput) (i session thread : ℕ) (limits : Bounds) (input : LaneInput) (lane : OwnPopping) (f : AllOwnPushed) → i ≡ thread → i < length inputs → input ≡ get_or inputs i input
     → AreNotesOf limits thread f.pushed → lane.popped ≡ input.lane.popped → IsPrefix input.lane.left lane.left → lane.popped ++ lane.left ≡ f.pushed
     → (seen : LaneInput) → slice_get inputs thread ≡ Some seen → IsConfirmed (handed seen.lane) (record { session = session; thread = thread; limits = limits; lane = f.lane; pushed = f.pushed })
 confirmed_input inputs i session thread limits input lane f its within is notes popped left whole seen at =

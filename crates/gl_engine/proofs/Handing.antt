@@ -8,7 +8,7 @@ use Rattle.gl_event.specs.Bounds.{Bounds}
 use Rattle.gl_event.specs.declared.notes.Note.{Note}
 use Rattle.gl_edges.specs.declared.edge.Edge.{Edge}
 use Rattle.gl_edges.specs.declared.edge.Sample.{Sample}
-use Rattle.gl_lane.specs.Lanes.{Popping}
+use Rattle.gl_lane.specs.OwnLanes.{OwnPopping}
 use Rattle.gl_shards.specs.Feeds.{Sending}
 use Rattle.gl_world.proofs.Lists.{same_some, get_at, get_set_same, get_set_other}
 use Rattle.gl_engine.specs.bodies.Breaking.{handed, HandOver, HasLagged, IsBlamed, IsGoneAt, IsPullFault, StopsWith}
@@ -33,12 +33,12 @@ prefix_behind front xs ys a = (a.0, append_assoc front xs a.0 ∙ ap (λ l. fron
 -- ---- a lane
 
 -- its next note was popped
-pub handed_popped : (old new : Popping) (note : Note) → new.popped ≡ old.popped ++ note ∷ [] → IsPrefix old.left (note ∷ new.left) → IsPrefix (handed old) (handed new)
+pub handed_popped : (old new : OwnPopping) (note : Note) → new.popped ≡ old.popped ++ note ∷ [] → IsPrefix old.left (note ∷ new.left) → IsPrefix (handed old) (handed new)
 handed_popped old new note popped left =
     subst (IsPrefix (handed old)) (sym (append_assoc old.popped (note ∷ []) new.left) ∙ ap (λ l. l ++ new.left) (sym popped)) (prefix_behind old.popped old.left (note ∷ new.left) left)
 
 -- no note was popped
-pub handed_seen : (old new : Popping) → new.popped ≡ old.popped → IsPrefix old.left new.left → IsPrefix (handed old) (handed new)
+pub handed_seen : (old new : OwnPopping) → new.popped ≡ old.popped → IsPrefix old.left new.left → IsPrefix (handed old) (handed new)
 handed_seen old new popped left = subst (IsPrefix (handed old)) (ap (λ l. l ++ new.left) (sym popped)) (prefix_behind old.popped old.left new.left left)
 
 -- ---- lanes

@@ -8,7 +8,7 @@ use Rattle.gl_intake.specs.Stream.{note_refusal, accepted_as, IsNext}
 use Rattle.gl_intake.specs.declared.notes.Accepted.{Accepted}
 use Rattle.gl_intake.specs.declared.notes.Accepted.TheVariants as accepted
 use Rattle.gl_intake.specs.declared.notes.Refused.{Refused}
-use Rattle.gl_lane.specs.Lanes.{LaneId}
+use Rattle.gl_lane.specs.OwnLanes.{OwnLaneId}
 use Rattle.gl_engine.specs.Dealing.{edges_of_next}
 use Rattle.gl_engine.specs.Recording.{Recording, IsFresh}
 use Rattle.gl_engine.specs.declared.pulled.Pulled.{Pulled}
@@ -18,7 +18,7 @@ use Rattle.gl_engine.specs.declared.pulled.PullFault.TheVariants.{Broken, Memory
 
 -- the collector's end of a thread's lane: the notes popped off it, oldest first, and why its front note was refused, if it was
 pub record Pulling : Type 0 where
-  pub lane : LaneId
+  pub lane : OwnLaneId
   pub popped : List Note
   pub broken : Option Refused
 
@@ -31,15 +31,15 @@ pub record Collecting : Type 0 where
   pub made : List (Edge × Sample)
 
 -- the threads' lanes, in the order of thread numbers
-abbrev pub lanes_of : Collecting → List LaneId
+abbrev pub lanes_of : Collecting → List OwnLaneId
 lanes_of c = map (λ input. input.lane) c.inputs
 
 -- the collector's end of a new lane
-abbrev pub fresh_input : LaneId → Pulling
+abbrev pub fresh_input : OwnLaneId → Pulling
 fresh_input lane = record { lane = lane; popped = []; broken = None }
 
 -- the collector of a session whose recorders have these lanes, before the first pull
-abbrev pub fresh_collecting : ℕ → Bounds → List LaneId → Collecting
+abbrev pub fresh_collecting : ℕ → Bounds → List OwnLaneId → Collecting
 fresh_collecting session limits lanes =
     record {
       session = session;

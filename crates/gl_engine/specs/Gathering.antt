@@ -8,7 +8,7 @@ use Rattle.gl_edges.specs.declared.edge.Edge.{Edge}
 use Rattle.gl_edges.specs.declared.edge.Sample.{Sample}
 use Rattle.gl_intake.specs.Stream.{has_ended, AreInOrder, IsRefusal}
 use Rattle.gl_intake.specs.declared.notes.Refused.{Refused}
-use Rattle.gl_lane.specs.Lanes.{LaneId}
+use Rattle.gl_lane.specs.OwnLanes.{OwnLaneId}
 use Rattle.gl_shards.specs.Feeds.{AllSent, FeedId, Sending}
 use Rattle.gl_shards.specs.Shards.{shard_of}
 use Rattle.gl_shards.specs.declared.shard.TheConstants.{MAX_SHARDS}
@@ -38,7 +38,7 @@ pub record AreUnused (outlets : List Sending) : Type 0 where
 pub record Gathering : Type 0 where
   pub session : ℕ
   pub limits : Bounds
-  pub lanes : List LaneId
+  pub lanes : List OwnLaneId
   pub stream : List Note
   pub sent : List AllSent
   pub fault : Option RunFault

@@ -7,7 +7,7 @@ use Rattle.gl_edges.specs.declared.edge.Edge.{Edge}
 use Rattle.gl_edges.specs.declared.edge.Sample.{Sample}
 use Rattle.gl_intake.specs.Stream.{events_of, has_ended, note_refusal, AreInOrder}
 use Rattle.gl_intake.specs.declared.notes.Refused.{Refused}
-use Rattle.gl_lane.specs.Lanes.{Popping}
+use Rattle.gl_lane.specs.OwnLanes.{OwnLaneId, OwnPopping}
 use Rattle.gl_recorder.specs.Taking.{Taking, Tracks}
 use Rattle.gl_world.specs.Keeping.{notes_of, AreMade}
 use Rattle.gl_engine.specs.Collecting.{Pulling, Side, as_of}
@@ -19,10 +19,11 @@ pub record AreNotesOf (limits : Bounds) (thread : ℕ) (notes : List Note) : Typ
   pub own : (place : ℕ) (note : Note) → slice_get notes place ≡ Some note → note.thread ≡ thread
   pub in_order : AreInOrder limits notes
 
--- a recorder pushed its thread's notes, in order and no end mark, and tracks the events that they tell
-pub record IsRecorder (limits : Bounds) (thread : ℕ) (pushed : List Note)
+-- a recorder pushed its thread's notes into its thread's lane, in order and no end mark, and tracks the events that they tell
+pub record IsRecorder (limits : Bounds) (thread : ℕ) (lane : OwnLaneId) (pushed : List Note)
     (taker : Taking) : Type 0 where
   pub known : thread < limits.threads
+  pub whose : lane.thread ≡ thread
   pub tracks : Tracks limits thread (events_of thread pushed) taker
   pub notes : AreNotesOf limits thread pushed
   pub running : has_ended thread pushed ≡ false
@@ -43,7 +44,7 @@ abbrev pub side_at : LaneInput → List Note → List (Edge × Sample) → Side
 side_at input stream made = record { input = pulling_of input; stream = stream; made = made }
 
 -- the lane's front note, read as one of the thread, may not come next, for this reason
-pub record IsStuck (limits : Bounds) (thread : ℕ) (stream : List Note) (lane : Popping)
+pub record IsStuck (limits : Bounds) (thread : ℕ) (stream : List Note) (lane : OwnPopping)
     (why : Refused) : Type 0 where
   pub note : Note
   pub front : IsPrefix (note ∷ []) lane.left

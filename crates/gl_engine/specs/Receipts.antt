@@ -2,7 +2,7 @@
 use Rattle.std.specs.Prelude.{◌≡◌, ◌==◌, ◌||◌, ℕ, ◌<◌, Bool, true, false, List, length, take, Some, slice_get, nat_le, not}
 use Rattle.std.specs.List.{list_any}
 use Rattle.gl_event.specs.Bounds.{Bounds}
-use Rattle.gl_lane.specs.Lanes.{LaneId}
+use Rattle.gl_lane.specs.OwnLanes.{OwnLaneId}
 use Rattle.gl_engine.specs.Recording.{Closed}
 
 -- one of the receipts is of this thread
@@ -15,10 +15,11 @@ is_strange session threads before r =
     not (r.session == session) || (nat_le threads r.thread || has_receipt before r.thread)
 
 -- each receipt of this session and a known thread is of the thread's recorder: it has the other end of its lane
-abbrev pub AreOfRecorders : ℕ → Bounds → List LaneId → List Closed → Type 0
+abbrev pub AreOfRecorders : ℕ → Bounds → List OwnLaneId → List Closed → Type 0
 AreOfRecorders session limits lanes receipts =
-    (at : ℕ) (r : Closed) → slice_get receipts at ≡ Some r → r.session ≡ session → (lane : LaneId)
-    → slice_get lanes r.thread ≡ Some lane → (r.lane ≡ lane) × (r.limits ≡ limits)
+    (at : ℕ) (r : Closed) → slice_get receipts at ≡ Some r → r.session ≡ session
+    → (lane : OwnLaneId) → slice_get lanes r.thread ≡ Some lane
+    → (r.lane ≡ lane) × (r.limits ≡ limits)
 
 -- none of the first receipts, up to this place, is strange
 abbrev pub AreOwnBelow : ℕ → ℕ → List Closed → ℕ → Type 0

@@ -6,7 +6,7 @@ use Rattle.gl_event.specs.declared.events.Event.{Event}
 use Rattle.gl_event.specs.declared.events.Refusal.{Refusal}
 use Rattle.gl_event.specs.declared.notes.Note.{Note}
 use Rattle.gl_intake.specs.Stream.{events_of}
-use Rattle.gl_lane.specs.Lanes.{LaneId}
+use Rattle.gl_lane.specs.OwnLanes.{OwnLaneId}
 use Rattle.gl_recorder.specs.Taking.{event_note, end_note}
 
 -- the recorder of a thread: its session, thread and limits, its lane, the notes pushed into it, and for how many more there is certainly room
@@ -14,7 +14,7 @@ pub record Recording : Type 0 where
   pub session : ℕ
   pub thread : ℕ
   pub limits : Bounds
-  pub lane : LaneId
+  pub lane : OwnLaneId
   pub pushed : List Note
   pub room : ℕ
 
@@ -23,7 +23,7 @@ pub record Closed : Type 0 where
   pub session : ℕ
   pub thread : ℕ
   pub limits : Bounds
-  pub lane : LaneId
+  pub lane : OwnLaneId
   pub pushed : List Note
 
 -- who records: the session, the thread, the limits, and the lane
@@ -31,7 +31,7 @@ pub record Identity : Type 0 where
   pub session : ℕ
   pub thread : ℕ
   pub limits : Bounds
-  pub lane : LaneId
+  pub lane : OwnLaneId
 
 -- who the recorder is
 abbrev pub identity_of : Recording → Identity

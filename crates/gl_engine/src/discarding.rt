@@ -7,7 +7,7 @@ ghost use Rattle.gl_engine.specs.bodies.Whole.{lane_of};
 use crate::lane_input::LaneInput;
 use gl_event::{Body, ThreadId};
 use gl_intake::Intake;
-use gl_lane::LaneOut;
+use gl_lane::OwnLaneOut;
 use std::sync::Wait;
 use std::thread;
 
@@ -27,7 +27,7 @@ struct Round {
 }
 
 // Pops a note off the lane, if there is one.
-fn discard_one(lane: &mut LaneOut) -> Discarded
+fn discard_one(lane: &mut OwnLaneOut) -> Discarded
     ensures lane { lane.new.lane ≡ lane.old.lane }
     ensures handed { IsPrefix (handed lane.old) (handed lane.new) }
 {

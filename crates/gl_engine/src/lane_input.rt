@@ -20,12 +20,12 @@ use crate::making::Making;
 use crate::pulled::{PullFault, Pulled};
 use gl_event::{Body, Event, Memory, Note, ThreadId, ThreadState};
 use gl_intake::{Accepted, Intake, Refused};
-use gl_lane::LaneOut;
+use gl_lane::OwnLaneOut;
 use std::alloc::Global;
 
 /// The collector's end of a thread's lane, and why the lane's front note was refused, if it was.
 pub struct LaneInput {
-    pub lane: LaneOut,
+    pub lane: OwnLaneOut,
     pub broken: Option<Refused>,
 }
 
@@ -125,7 +125,7 @@ pub fn accept_with_edges(
 }
 
 // Pops the front note, which was seen.
-fn pop_seen(lane: &mut LaneOut)
+fn pop_seen(lane: &mut OwnLaneOut)
     requires seen { 0 < length lane.old.left }
     ensures lane { lane.new.lane ≡ lane.old.lane }
     ensures popped { (front : Note) → IsPrefix (front ∷ []) lane.old.left

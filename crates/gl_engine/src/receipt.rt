@@ -4,7 +4,7 @@ ghost use Rattle.gl_intake.specs.Stream.{has_ended};
 ghost use Rattle.gl_engine.specs.Recording.{recorded_whole};
 
 use gl_event::{Limits, ThreadId};
-use gl_lane::Finished;
+use gl_lane::OwnFinished;
 use std::marker::Model;
 
 /// What a recorder leaves behind that has closed. It may move to the collector's thread.
@@ -16,7 +16,7 @@ pub struct Receipt {
     pub(crate) thread: ThreadId,
     pub(crate) limits: Limits,
     pub(crate) taken: u32,
-    pub(crate) finished: Finished,
+    pub(crate) finished: OwnFinished,
 }
 
 // Written out, so that it is proved once: a derived drop is proved again wherever one is let go.

@@ -2,14 +2,13 @@
 ghost use Rattle.std.specs.Prelude.{◌≡◌, ◌<◌, ◌≤◌, ◌+◌, ◌∷◌, ◌++◌, false, None, [], length, IfOk, IfErr};
 ghost use Rattle.gl_event.specs.Lawful.{IsLawful};
 ghost use Rattle.gl_intake.specs.Stream.{has_ended};
-ghost use Rattle.gl_lane.specs.Rule.{IsPlaced};
 ghost use Rattle.gl_engine.specs.Recording.{recorded, refusal_of, next_note, closed_of, HasTaken};
 ghost use Rattle.gl_engine.specs.declared.recorder.RecordFault.TheVariants.{Refused};
 ghost use Rattle.gl_engine.specs.Faults.{HasTried, IsNotRecorded, IsNotClosed, IsUnconfirmed};
 
 use crate::receipt::Receipt;
 use gl_event::{Event, Limits, Note, Refusal, ThreadId};
-use gl_lane::LaneIn;
+use gl_lane::OwnLaneIn;
 use gl_recorder::Taker;
 use gl_shards::pause;
 use std::marker::Model;
@@ -42,7 +41,7 @@ pub struct Recorder {
     pub(crate) session: u64,
     pub(crate) limits: Limits,
     pub(crate) taker: Taker,
-    pub(crate) lane: LaneIn,
+    pub(crate) lane: OwnLaneIn,
 }
 
 // Written out, so that it is proved once: a derived drop is proved again wherever one is let go.
@@ -72,13 +71,15 @@ impl Model for Recorder {
       room = r.lane.room;
     } };
 
-    ghost invariant = { λ r. IsRecorder r.limits r.taker.thread r.lane.pushed r.taker };
+    ghost invariant = { λ r.
+        IsRecorder r.limits r.taker.thread r.lane.lane r.lane.pushed r.taker };
 }
 
 impl Recorder {
     // The recorder of the thread, which has taken nothing yet, with the recorder's end of its lane.
-    pub(crate) fn new(session: u64, thread: ThreadId, limits: &Limits, lane: LaneIn) -> Recorder
+    pub(crate) fn new(session: u64, thread: ThreadId, limits: &Limits, lane: OwnLaneIn) -> Recorder
         requires known { thread < limits.now.threads }
+        requires own { lane.lane.thread ≡ thread }
         requires empty { lane.pushed ≡ [] }
         ensures fresh { result ≡ record {
           session = session;

@@ -11,7 +11,7 @@ use crate::lane_input::LaneInput;
 use crate::recorder::Recorder;
 use gl_event::{Limits, Memory, ThreadId};
 use gl_intake::Intake;
-use gl_lane::lane;
+use gl_lane::own_lane;
 use std::alloc::Global;
 
 // A thread's recorder, and the collector's input of the thread, with the two ends of a new lane.
@@ -25,7 +25,7 @@ fn open_lane(
     ensures fresh { IfOk result (λ ends. IsFresh session limits.now thread ends.0) }
     ensures input { IfOk result (λ ends. pulling_of ends.1 ≡ fresh_input ends.0.lane) }
 {
-    let (recorder, collector) = lane(alloc, limits.ring())?;
+    let (recorder, collector) = own_lane(alloc, thread, limits.ring())?;
     let input = LaneInput {
         lane: collector,
         broken: None,

@@ -1,16 +1,16 @@
 -- Sessions whose threads have closed, and which receipts they can be settled with.
 use Rattle.std.specs.Prelude.{◌≡◌, ℕ, Bool, true, List, map, Some, None, slice_get}
 use Rattle.gl_event.specs.Bounds.{Bounds}
-use Rattle.gl_lane.specs.Lanes.{LaneId}
+use Rattle.gl_lane.specs.OwnLanes.{OwnLaneId}
 use Rattle.gl_shards.specs.Feeds.{AllSent, Receiving}
 use Rattle.gl_engine.specs.Recording.{Closed}
 use Rattle.gl_engine.specs.Collecting.{Collecting, lanes_of}
 use Rattle.gl_engine.specs.Gathering.{Gathering, AreOurs}
 
 -- the receipt is that of the thread's recorder in a session of this number, limits and lanes, or another session's
-abbrev pub IsOurs : ℕ → Bounds → List LaneId → Closed → Type 0
+abbrev pub IsOurs : ℕ → Bounds → List OwnLaneId → Closed → Type 0
 IsOurs session limits lanes r =
-    r.session ≡ session → (lane : LaneId) → slice_get lanes r.thread ≡ Some lane
+    r.session ≡ session → (lane : OwnLaneId) → slice_get lanes r.thread ≡ Some lane
     → (r.lane ≡ lane) × (r.limits ≡ limits)
 
 -- each receipt is that of a thread's recorder in the collector's session, or another session's

@@ -1,1 +1,3 @@
+pub mod OwnNotes
+pub mod OwnRunning
 pub mod Running

@@ -1,3 +1,4 @@
 pub mod Lanes
+pub mod OwnLanes
 pub mod Rule
 pub mod bodies

@@ -18,11 +18,17 @@
 //! count. Once the recorder has finished, a [`Finished`] stands for all that it pushed, and
 //! [`LaneOut::confirm`] compares: nothing was lost, repeated, put in or moved.
 //!
+//! A thread's [own lane](own_lane) is for the notes of that thread alone, each of which is the next one: so it needs 16 bytes for
+//! a note, where a lane needs 24, and of each popped note contracts say which thread's it is and how many came before. Sessions
+//! record by these.
+//!
 //! That an end sees the room or the notes that the other end made is tested and not proved.
 //!
 //! docs/GLOSSARY.md has its words beside those of the field.
 #![tactic(auto)]
 
 mod ends;
+mod own_ends;
 
 pub use ends::{Finished, LaneIn, LaneOut, lane};
+pub use own_ends::{OwnFinished, OwnLaneIn, OwnLaneOut, own_lane};

@@ -8,7 +8,7 @@ use Rattle.std.proofs.lemmas.List.{length-map, map-append}
 use Rattle.std.proofs.lemmas.Option.{slice_get-map}
 use Rattle.gl_event.specs.Bounds.{Bounds}
 use Rattle.gl_event.specs.declared.limits.TheConstants.{MAX_EVENTS}
-use Rattle.gl_lane.specs.Lanes.{LaneId}
+use Rattle.gl_lane.specs.OwnLanes.{OwnLaneId}
 use Rattle.gl_world.proofs.Lists.{get_in}
 use Rattle.gl_engine.specs.Collecting.{Collecting, IsOpened, fresh_input, lanes_of}
 use Rattle.gl_engine.specs.Recording.{Recording}
@@ -21,7 +21,7 @@ use Rattle.gl_live.proofs.Leaving.{unsent_at}
 use Rattle.gl_live.proofs.Rostered.{events_none}
 use Rattle.gl_intake.specs.Stream.{events_of}
 
-lanes_of_fresh : (lanes : List LaneId) → map (λ input. input.lane) (map fresh_input lanes) ≡ lanes
+lanes_of_fresh : (lanes : List OwnLaneId) → map (λ input. input.lane) (map fresh_input lanes) ≡ lanes
 lanes_of_fresh [] = refl
 lanes_of_fresh (lane ∷ lanes) = ap (λ ls. lane ∷ ls) (lanes_of_fresh lanes)
 

@@ -8,6 +8,7 @@ mod filters;
 mod intakes;
 mod io;
 mod lanes;
+mod own_lanes;
 mod recorders;
 mod segments;
 mod shards;

@@ -8,7 +8,7 @@ use Rattle.gl_edges.specs.declared.edge.Edge.{Edge}
 use Rattle.gl_edges.specs.declared.edge.Sample.{Sample}
 use Rattle.gl_intake.specs.Stream.{note_refusal}
 use Rattle.gl_intake.specs.declared.notes.Refused.{Refused}
-use Rattle.gl_lane.specs.Lanes.{Popping}
+use Rattle.gl_lane.specs.OwnLanes.{OwnPopping}
 use Rattle.gl_world.specs.Keeping.{notes_of}
 use Rattle.gl_engine.specs.Collecting.{as_of, IsTurn}
 use Rattle.gl_engine.specs.Dealing.{dealt, made_by, AreDue}
@@ -22,7 +22,7 @@ use Rattle.gl_engine.specs.declared.pulled.PullFault.TheVariants.{Broken, Memory
 use Rattle.gl_engine.specs.declared.lane_input.LaneInput.{LaneInput}
 
 -- the notes that a lane has handed over so far, oldest first: those popped, and those seen in it
-abbrev pub handed : Popping → List Note
+abbrev pub handed : OwnPopping → List Note
 handed lane = lane.popped ++ lane.left
 
 -- the thread's lane has handed over these notes first

@@ -7,7 +7,7 @@ use Rattle.gl_edges.specs.Edges.{once}
 use Rattle.gl_edges.specs.declared.edge.Edge.{Edge}
 use Rattle.gl_edges.specs.declared.edge.Sample.{Sample}
 use Rattle.gl_intake.specs.Stream.{has_ended, AreInOrder, Collected}
-use Rattle.gl_lane.specs.Lanes.{LaneId}
+use Rattle.gl_lane.specs.OwnLanes.{OwnLaneId}
 use Rattle.gl_shards.specs.Feeds.{AllSent, Sending}
 use Rattle.gl_world.specs.Keeping.{notes_of, AreMade}
 use Rattle.gl_engine.specs.bodies.Breaking.{IsBlamed, IsPullFault, StopsWith}
@@ -23,7 +23,7 @@ use Rattle.gl_engine.specs.declared.making.Making.{Making}
 use Rattle.gl_engine.specs.declared.lane_input.LaneInput.{LaneInput}
 
 -- an input's lane
-abbrev pub lane_of : LaneInput → LaneId
+abbrev pub lane_of : LaneInput → OwnLaneId
 lane_of input = input.lane.lane
 
 -- what a collector keeps of the notes collected

@@ -3,7 +3,7 @@ use Rattle.std.specs.Prelude.{◌≡◌, ℕ, List, [], Some, slice_get}
 use Rattle.std.specs.List.{All}
 use Rattle.gl_event.specs.Bounds.{Bounds}
 use Rattle.gl_event.specs.declared.events.Event.{Event}
-use Rattle.gl_lane.specs.Lanes.{LaneId}
+use Rattle.gl_lane.specs.OwnLanes.{OwnLaneId}
 use Rattle.gl_engine.specs.Collecting.{Collecting, lanes_of}
 use Rattle.gl_engine.specs.Gathering.{Gathering}
 use Rattle.gl_engine.specs.Recording.{Recording, Closed, Identity, identity_of, left_by, recorded, recorded_whole}
@@ -12,7 +12,7 @@ use Rattle.gl_engine.specs.Recording.{Recording, Closed, Identity, identity_of, 
 pub record Roster : Type 0 where
   pub session : ℕ
   pub limits : Bounds
-  pub lanes : List LaneId
+  pub lanes : List OwnLaneId
 
 -- the session of a collector
 abbrev pub roster_of : Collecting → Roster
