@@ -4,16 +4,18 @@ ghost use Rattle.gl_edges.specs.Numbered.{guards_in, AreNumbered};
 use super::wanted::Wanted;
 use super::{are_wanted, expect};
 use crate::stepping::{stepped, unrepeated};
-use gl_edges::{Edge, EdgeList, Guard, GuardSets, Guards, Sample};
+use gl_edges::{Edge, EdgeList, GuardSets, Sample};
 use gl_event::{Event, LockId, LockMode, Memory, ThreadId};
 use gl_worked::known::lawful_edges;
 use gl_worked::lawful::is_lawful;
 use gl_worked::ops::Op::{Acq, Fork, Racq, Rel, Tryacq};
+use guards::are_locks;
 use lists::Lists::{self, Parts, ThousandTurns, Told};
 use lists::{NEST, made};
 use std::alloc::Global;
 use std::process::Abort;
 
+mod guards;
 mod lists;
 
 // An edge and its sample, as they are wanted: the mode of the held lock and of all guards; the thread, the
@@ -293,27 +295,6 @@ const COUNTS: &[Case] = &[
     },
 ];
 
-// A guard, exclusive or shared.
-fn guard(lock: u32, mode: LockMode) -> Guard {
-    Guard {
-        lock: LockId::new(lock),
-        mode,
-    }
-}
-
-// Whether these are guards of the locks with these numbers, all of them in the mode.
-fn are_locks(guards: &[Guard], numbers: &[u32], mode: LockMode) -> bool {
-    if guards.len() != numbers.len() {
-        return false;
-    }
-    for (found, number) in guards.iter().zip(numbers) {
-        if *found != guard(*number, mode) {
-            return false;
-        }
-    }
-    true
-}
-
 // The place, and the locations' numbers.
 fn at_of(sample: &Sample) -> [u32; 3] {
     [
@@ -499,42 +480,4 @@ fn counts_of_edges(rt: HostRuntime) {
     for case in COUNTS {
         expect_answers(&rt, rt.alloc(), case);
     }
-}
-
-// The guards of these locks and modes.
-fn guards_of(alloc: Global, locks: &[(u32, LockMode)]) -> Option<Vec<Guard>> {
-    let mut guards = Vec::new(alloc);
-    for (lock, mode) in locks {
-        if guards.push(guard(*lock, *mode)).is_err() {
-            return None;
-        }
-    }
-    Some(guards)
-}
-
-impl Wanted<Guard> for (u32, LockMode) {
-    fn is(&self, found: &Guard) -> bool {
-        *found == guard(self.0, self.1)
-    }
-}
-
-// Whether the set of these locks has those.
-fn has_guards(alloc: Global, locks: &[(u32, LockMode)], wants: &[(u32, LockMode)]) -> bool {
-    let Some(guards) = guards_of(alloc, locks) else {
-        return false;
-    };
-    match Guards::new(guards).into_vec() {
-        Ok(list) => are_wanted(list.as_slice(), wants),
-        Err(_) => false,
-    }
-}
-
-const S: LockMode = LockMode::Shared;
-
-// A set of locks has each of them once in each mode, ascending, exclusive before shared.
-#[test]
-fn guards_of_locks(rt: HostRuntime) {
-    let locks = &[(3, S), (1, X), (3, X), (3, S)];
-    assert!(rt; has_guards(rt.alloc(), locks, &[(1, X), (3, X), (3, S)]));
-    assert!(rt; has_guards(rt.alloc(), &[(2, S), (1, X), (2, S)], &[(1, X), (2, S)]));
 }
