@@ -27,8 +27,11 @@ pub fn find_from(byte: u8, text: &[u8], from: usize) -> Option<usize>
         }
         at += LANES;
     }
-    if length - at >= LANES || length - from < LANES {
+    if length - at >= LANES {
         return find_far(byte, text, at);
+    }
+    if length - from < LANES {
+        return find_one_by_one(byte, text, from);
     }
     // the last sixteen bytes, of which some were looked at already
     let last = length - LANES;
@@ -45,6 +48,22 @@ fn find_far(byte: u8, text: &[u8], from: usize) -> Option<usize>
         Some(place) => Some(from + place),
         None => None,
     }
+}
+
+// `find_from`, byte by byte: of fewer than sixteen, one of the first few is mostly the one.
+#[inline(always)]
+fn find_one_by_one(byte: u8, text: &[u8], from: usize) -> Option<usize>
+    requires { from ≤ length text.now }
+    ensures { IsFirst (Passes (is_byte byte) text.now) from (length text.now) result }
+{
+    let mut at = from;
+    while at < text.len() {
+        if text[at] == byte {
+            return Some(at);
+        }
+        at += 1;
+    }
+    None
 }
 
 // How many of the 16 bytes from here on come before the first one that is this byte: all, where none is.

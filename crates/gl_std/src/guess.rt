@@ -5,6 +5,8 @@ use std::alloc::{AllocError, Global};
 const PLACES: usize = 1024;
 /// An odd number by which a product is spread over its upper bits.
 const SPREAD: u64 = 0x9e37_79b9_7f4a_7c15;
+/// The same for half as many bits.
+const SECOND_SPREAD: u32 = 0x9e37_79b1;
 
 /// What a name is guessed by: a hash of its first and last bytes and of its length.
 ///
@@ -12,31 +14,37 @@ const SPREAD: u64 = 0x9e37_79b9_7f4a_7c15;
 /// that a guess is wrong.
 #[derive(Clone, Copy)]
 pub(crate) struct Print {
-    hash: u64,
+    mark: u32,
 }
 
 impl Print {
     /// The print of a name. Looks at 16 bytes at most.
     pub(crate) fn new(name: &[u8]) -> Print {
         let ends = ends_of(name) ^ (name.len() as u64).rotate_left(48);
+        // the upper half of the product, since a name's last bytes have no part in the lower one
         Print {
-            hash: ends.wrapping_mul(SPREAD),
+            mark: (ends.wrapping_mul(SPREAD) >> 32) as u32,
         }
     }
 
-    // The place of the guess among so many, a power of two: the uppermost bits, since a name's last bytes
-    // have no part in the lower ones.
+    // Where the guess stands that was put last, of those with this place.
     #[inline(always)]
-    fn place(self, count: usize) -> usize {
-        self.hash
-            .wrapping_shr(count.wrapping_sub(1).leading_zeros()) as usize
+    fn first_place(self, count: usize) -> usize {
+        place_of(self.mark, count)
     }
 
-    // What tells prints of one place apart.
+    // Where a guess stands whose first place another one took. It depends on all of the print, so that
+    // two of one first place mostly have two.
     #[inline(always)]
-    fn mark(self) -> u32 {
-        (self.hash >> 32) as u32
+    fn second_place(self, count: usize) -> usize {
+        place_of(self.mark.wrapping_mul(SECOND_SPREAD), count)
     }
+}
+
+// A place among so many, a power of two: as many of the uppermost bits as it takes.
+#[inline(always)]
+fn place_of(bits: u32, count: usize) -> usize {
+    (u64::from(bits) << 32).wrapping_shr(count.wrapping_sub(1).leading_zeros()) as usize
 }
 
 // The first and the last bytes of a name, mixed.
@@ -73,14 +81,15 @@ fn four(bytes: &[u8]) -> u32 {
     }
 }
 
-// The number that was put last at a place, and the mark of its print.
+// The number of a name, and its print.
 #[derive(Clone, Copy)]
 struct Guess {
-    mark: u32,
+    print: Print,
     number: u32,
 }
 
-/// Numbers of names that were put lately, by their prints.
+/// Numbers of names that were put lately, by their prints. Each has two places where it may stand, so that
+/// two names of one place are both known.
 ///
 /// A guess is nothing to rely on: whoever asks for one compares the name with that of this number.
 #[derive(Drop)]
@@ -105,29 +114,49 @@ impl Guesses {
             return Ok(());
         }
         let more = if count == 0 { PLACES } else { count };
-        let none = Guess { mark: 0, number: 0 };
+        let none = Guess {
+            print: Print { mark: 0 },
+            number: 0,
+        };
         self.guesses.resize(count.saturating_add(more), none)
     }
 
     /// A number that a name with this print may have.
     #[inline(always)]
     pub(crate) fn get(&self, print: Print) -> Option<u32> {
-        let guess = self.guesses.get(print.place(self.guesses.len()))?;
-        if guess.mark != print.mark() {
-            return None;
+        let count = self.guesses.len();
+        let first = self.guesses.get(print.first_place(count))?;
+        if first.print.mark == print.mark {
+            return Some(first.number);
         }
-        Some(guess.number)
+        let second = self.guesses.get(print.second_place(count))?;
+        if second.print.mark == print.mark {
+            return Some(second.number);
+        }
+        None
     }
 
     /// Puts the number of a name with this print, if it has one and there is memory.
     pub(crate) fn put(&mut self, print: Print, number: Option<u32>) {
         let Some(number) = number else { return };
-        let place = print.place(self.guesses.len());
-        if let Some(guess) = self.guesses.get_mut(place) {
-            *guess = Guess {
-                mark: print.mark(),
-                number,
-            };
+        let place = print.first_place(self.guesses.len());
+        let Some(guess) = self.guesses.get_mut(place) else {
+            return;
+        };
+        let before = *guess;
+        *guess = Guess { print, number };
+        self.put_second(before, place);
+    }
+
+    // Puts the guess that stood at this place until now at its second one, if that was its first one.
+    fn put_second(&mut self, before: Guess, place: usize) {
+        let count = self.guesses.len();
+        let second = before.print.second_place(count);
+        if before.print.first_place(count) != place || second == place {
+            return;
+        }
+        if let Some(guess) = self.guesses.get_mut(second) {
+            *guess = before;
         }
     }
 }

@@ -114,6 +114,7 @@ impl LineReader {
     }
 
     /// What one step brings, a line or a read. It reads only where no whole line is left.
+    #[inline(always)]
     pub(crate) fn step<R: Source>(&mut self, input: &mut R) -> Result<Step, LinesFault>
         requires { CanReadOn self.old (R.failed input.old) }
         ensures steps { IsStep (R.position input.old) self.old
