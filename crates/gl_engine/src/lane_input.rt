@@ -94,6 +94,7 @@ fn refusal_without_memory(intake: &mut Intake, note: &Note) -> Refused
 ///
 /// The edges are found before the note is offered, so that the intake looks through the locks that the thread
 /// holds once. A note that makes none is offered at once.
+#[inline(always)]
 pub fn accept_with_edges(
     alloc: Global,
     intake: &mut Intake,
@@ -188,6 +189,7 @@ impl LaneInput {
     // The end of a pull, whose front note is this one, read as one of the thread, and was offered to the intake.
     // Where it was accepted it is popped, where it was refused the lane is broken, and where there was no memory
     // it stays.
+    #[inline(always)]
     fn take_front(
         &mut self,
         note: &Note,

@@ -6,13 +6,14 @@ ghost use Rattle.gl_cycles.specs.Cycles.{cycles_in};
 ghost use Rattle.gl_filters.specs.Picked.{edges_of_table};
 ghost use Rattle.gl_findings.specs.Findings.{classes_of, findings};
 ghost use Rattle.gl_findings.specs.bodies.Finding.{AreAdded, AreReachedBy, HasSpans, IsReady, IsUnbound, finding_of, block_of, below_of};
-ghost use Rattle.gl_findings.specs.bodies.Lengths.{AreLongest, IsFull};
+ghost use Rattle.gl_findings.specs.bodies.Lengths.{AreLongest};
 ghost use Rattle.gl_findings.specs.bodies.Told.{AreGrounds};
 
 use crate::grounds::Grounds;
+use crate::lengths::is_full;
 use crate::passages::Passages;
 use crate::runners::{Runner, is_run_twice};
-use crate::shown::first_with;
+use crate::shown::{first_with, keep};
 use crate::spans::Spans;
 use crate::starts::has_walk;
 use crate::turns::{begins_least, longer};
@@ -242,7 +243,7 @@ impl Finder<'_> {
         if signature.len() == self.len {
             return Ok(());
         }
-        if self.is_full(signature) {
+        if is_full(self.longest, signature) {
             return Ok(());
         }
         let reached = self.reached(alloc, signature, spans, steps)?;
@@ -322,17 +323,6 @@ impl Finder<'_> {
             return Ok(());
         }
         self.grow(alloc, longer.as_slice(), spans, steps, found)
-    }
-
-    // Whether a signature has as many classes as a cycle with an edge of its first one has edges at most. Then none goes on from it.
-    fn is_full(&self, signature: &[usize]) -> bool
-        requires { 0 < length signature.now }
-        ensures { IsTrue result → IsFull self.now.longest.now signature.now }
-    {
-        match self.longest.get(signature[0]) {
-            Some(&most) => signature.len() >= most,
-            None => false,
-        }
     }
 
     // Whether a cycle may have this signature, as far as its last class and its first one tell.
@@ -502,14 +492,4 @@ impl Finder<'_> {
         }
         Ok(())
     }
-}
-
-// Adds the cycle that shows a finding.
-fn keep(found: &mut Vec<Vec<usize>>, cycle: Vec<usize>) -> Result<(), Memory>
-    ensures { OnOk result
-        (cycles_in found.new.items
-        ≡ cycles_in found.old.items ++ cycle.items ∷ []) }
-{
-    found.push(cycle)?;
-    Ok(())
 }

@@ -2,8 +2,8 @@
 //!
 //! Of each edge it is known how long a cycle with it is at most, by the component of the lock-order graph that it lies in. A class has
 //! the greatest number of its edges: a signature that has its class is no longer.
-ghost use Rattle.std.specs.Prelude.{◌≡◌, ℕ, length, slice_get, IfOk};
-ghost use Rattle.gl_findings.specs.bodies.Lengths.{AreGreatest, IsAtMost};
+ghost use Rattle.std.specs.Prelude.{◌≡◌, ◌<◌, ℕ, length, slice_get, IfOk, IsTrue};
+ghost use Rattle.gl_findings.specs.bodies.Lengths.{AreGreatest, IsAtMost, IsFull};
 
 use gl_event::Memory;
 use std::alloc::Global;
@@ -23,6 +23,18 @@ pub(crate) fn longest_of(
         raise(&mut longest, classes[i], limits[i]);
     }
     Ok(longest)
+}
+
+/// Whether a signature has as many classes as a cycle with an edge of its first one has edges at most, by the
+/// greatest numbers of classes, if they are known. Then none goes on from it.
+pub(crate) fn is_full(longest: &[usize], signature: &[usize]) -> bool
+    requires { 0 < length signature.now }
+    ensures { IsTrue result → IsFull longest.now signature.now }
+{
+    match longest.get(signature[0]) {
+        Some(&most) => signature.len() >= most,
+        None => false,
+    }
 }
 
 // Gives a class the number of an edge, if that is greater.

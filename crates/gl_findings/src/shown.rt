@@ -1,15 +1,17 @@
 //! The cycle by which a finding is shown.
-ghost use Rattle.std.specs.Prelude.{◌≡◌, ◌<◌, ◌≤◌, [], ◌∷◌, false, length, IfErr, IfOk, MatchOption};
+ghost use Rattle.std.specs.Prelude.{◌≡◌, ◌<◌, ◌≤◌, [], ◌∷◌, ◌++◌, false, length, IfErr, IfOk, OnOk, MatchOption};
 ghost use Rattle.std.specs.Option.{option_map};
 ghost use Rattle.gl_segments.specs.Clocks.{is_before};
 ghost use Rattle.gl_filters.specs.Picked.{edges_of_table};
 ghost use Rattle.gl_filters.specs.declared.steps.Stop.TheVariants.{Memory};
+ghost use Rattle.gl_cycles.specs.Cycles.{cycles_in};
 ghost use Rattle.gl_pruning.specs.OffCycles.{KeepsCycles};
 ghost use Rattle.gl_filters.specs.declared.lengths.TheConstants.{LONGEST};
 ghost use Rattle.gl_findings.specs.Findings.{classes_of, first_with};
 ghost use Rattle.gl_findings.specs.bodies.Lesser.{lesser};
 
 use crate::turns::turned;
+use gl_event::Memory;
 use gl_filters::Stop;
 use gl_walks::{Purpose, Walker};
 use std::alloc::Global;
@@ -67,4 +69,14 @@ pub(crate) fn first_with(
         first = lesser(first, walk);
     }
     Ok(first)
+}
+
+/// Adds the cycle that shows a finding.
+pub(crate) fn keep(found: &mut Vec<Vec<usize>>, cycle: Vec<usize>) -> Result<(), Memory>
+    ensures { OnOk result
+        (cycles_in found.new.items
+        ≡ cycles_in found.old.items ++ cycle.items ∷ []) }
+{
+    found.push(cycle)?;
+    Ok(())
 }

@@ -266,6 +266,7 @@ impl Intake {
     ///
     /// It looks through the at most 64 locks that the thread holds, once where there is room for the note,
     /// and appends to two lists.
+    #[inline(always)]
     pub fn offer(&mut self, note: Note) -> Result<Accepted, Refused>
         ensures offered { HasOffered self.old.limits self.old.stream self.new.stream note result }
         ensures room { 1 ≤ spare_of self.old note.thread → result ≢ Err Memory }
