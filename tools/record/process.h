@@ -22,6 +22,14 @@ void user_directory(uid_t user);
 /* Whether the present thread is between slow_enter and slow_leave. */
 int slow_inside(void);
 
+/* Sleeps while the word of 32 bits has this value, or shorter; wakes so many of those that sleep there. */
+void word_wait(const void *word, int value);
+void word_wake(const void *word, int count);
+
+/* A lock of the recorder's own, which is zero at first. */
+void inner_take(int *lock);
+void inner_leave(int *lock);
+
 /* Shut all signals out, and let in again those that were let in before. */
 void signals_shut_out(uint64_t *before);
 void signals_let_in(const uint64_t *before);

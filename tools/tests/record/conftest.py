@@ -28,6 +28,7 @@ def programs(tmp_path_factory):
     if shutil.which("clang++"):
         flags = ["-std=c++17", "-O1", "-gdwarf-4"]  # whose inlined calls binutils reads
         build("clang++", C_FLAGS + flags + ["-o", "wrappers-clang", source("wrappers.cc")], folder)
+    build("gcc", C_FLAGS + ["-O1", "-o", "priority", source("priority.c"), "-ldl"], folder)
     build("g++", C_FLAGS + ["-std=c++17", "-O0", "-o", "once", source("once.cc")], folder)
     build("gcc", C_FLAGS + ["-O1", "-rdynamic", "-o", "memory", source("memory.c"), "-ldl"], folder)
     build("gcc", C_FLAGS + ["-O1", "-shared", "-fPIC", "-o", "moves.so", source("moves.c")], folder)
