@@ -91,6 +91,12 @@ def descendants(strangers=()):
     return found
 
 
+def told_to_run_on(processes):
+    """These processes, in words."""
+    numbers = ", ".join(map(str, processes))
+    return "process %s, which runs on" % numbers if len(processes) == 1 else "processes %s, which run on" % numbers
+
+
 def send_signal(process, number, members):
     """To a process, held fast before it is looked at again whether it is among the members."""
     try:
@@ -188,7 +194,7 @@ class Family:
             if running:
                 limit = time.monotonic() + BEGIN_LIMIT
             if running and not told:
-                self.say("waiting for process %s, which runs on" % ", ".join(map(str, sorted(running))))
+                self.say("waiting for " + told_to_run_on(sorted(running)))
                 told = True
             info = signal.sigtimedwait(WAITED, LOOK if running else MOMENT)
             if info is None or info.si_signo == signal.SIGCHLD or self.is_asked(info):

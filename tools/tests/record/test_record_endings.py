@@ -57,7 +57,7 @@ def test_no_events_is_an_error():
 def test_static_program_is_an_error():
     run = record("./locks-static", "mutexes")
     assert run.status == NO_EVENTS and run.files() == [], "%d %s" % (run.status, run.files())
-    assert "statically linked" in run.said, run.said
+    assert "is the program statically linked, set-user-id, with file capabilities or of" in run.said, run.said
 
 
 def test_program_that_is_missing():
