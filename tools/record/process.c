@@ -172,13 +172,15 @@ void pages_drop(void *pages, size_t bytes)
     syscall(SYS_munmap, pages, bytes);
 }
 
-/* Makes pages zero in a forked child. A kernel before 4.14 can't; the handlers of a fork don't need it. */
-static void wipe_on_fork(void *pages, size_t bytes)
+/* Makes pages zero in a forked child; whether that can be done. A kernel before 4.14 can't; the handlers of a fork
+ * don't need it. */
+static int wipe_on_fork(void *pages, size_t bytes)
 {
 #ifdef MADV_WIPEONFORK
-    madvise(pages, bytes, MADV_WIPEONFORK);
+    return madvise(pages, bytes, MADV_WIPEONFORK) == 0;
 #else
     (void)pages, (void)bytes;
+    return 0;
 #endif
 }
 
@@ -552,7 +554,8 @@ static void process_settings(void)
 /* Begins the files of this process. A forked child keeps its parent's numbers of locks and sites. */
 static void process_start(const struct process *parent)
 {
-    wipe_on_fork(&process, sizeof process);
+    if (!wipe_on_fork(&process, sizeof process))
+        pid_in_doubt = 1; /* a child may be forked past the handlers */
     process.pid = (uint64_t)getpid();
     process.next_lock = parent ? parent->next_lock : 1;
     process.next_site = parent ? parent->next_site : 1;

@@ -16,6 +16,9 @@ int process_ready(void);
 /* Sees to it that the end of this process is marked in its file. */
 void endings_start(void);
 
+/* Whether a process of another number may call from this memory. */
+extern uint32_t pid_in_doubt;
+
 /* Before this process becomes that user. */
 void user_directory(uid_t user);
 

@@ -48,6 +48,17 @@ def test_program_that_clears_its_environment():
     expect("clears_environment", PAIR)
 
 
+@pytest.mark.parametrize("options", [(), ("--live",)], ids=["trace", "live"])
+@pytest.mark.parametrize("way", ["by_return", "at_once", "quickly"])
+def test_program_that_may_only_end(way, options):
+    """The recorder asks nothing of the system as it ends."""
+    run = record("./sealed", way, options=options)
+    if run.status == 77:
+        pytest.skip("no program may forbid itself system calls here")
+    assert run.status == 7, "status %d: %s" % (run.status, run.said)
+    assert not options or "0 cycles; settled" in run.said, run.said
+
+
 def test_no_events_is_an_error():
     run = record("./locks", "nothing")
     assert run.status == NO_EVENTS and run.files() == [], "%d %s" % (run.status, run.files())
