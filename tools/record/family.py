@@ -7,7 +7,15 @@ import time
 from recording import living_thread, maps_file, names_in_proc
 
 PR_SET_CHILD_SUBREAPER = 36
-FORWARDED = (signal.SIGINT, signal.SIGTERM, signal.SIGHUP, signal.SIGQUIT, signal.SIGUSR1, signal.SIGUSR2)
+FORWARDED = (
+    signal.SIGINT,
+    signal.SIGTERM,
+    signal.SIGHUP,
+    signal.SIGQUIT,
+    signal.SIGUSR1,
+    signal.SIGUSR2,
+    signal.SIGWINCH,
+)
 WAITED = FORWARDED + (signal.SIGCHLD,)
 # A signal that the kernel sent, as a terminal does on Ctrl-C: the program got it already.
 FROM_KERNEL = 128
@@ -91,6 +99,13 @@ def descendants(strangers=()):
     return found
 
 
+def is_news_alone(info):
+    """Whether a signal asks for nothing: a child has ended, or a terminal, as it tells all that run in it, has another size."""
+    if info.si_signo == signal.SIGWINCH:
+        return info.si_code == FROM_KERNEL
+    return info.si_signo == signal.SIGCHLD
+
+
 def told_to_run_on(processes):
     """These processes, in words."""
     numbers = ", ".join(map(str, processes))
@@ -170,7 +185,7 @@ class Family:
             info = signal.sigwaitinfo(WAITED)
             if self.is_asked(info):
                 continue
-            if info.si_signo != signal.SIGCHLD and info.si_code != FROM_KERNEL:
+            if not is_news_alone(info) and info.si_code != FROM_KERNEL:
                 os.kill(process, info.si_signo)  # not waited for yet: its number is its own
 
     def hand_on(self, number):
@@ -197,7 +212,7 @@ class Family:
                 self.say("waiting for " + told_to_run_on(sorted(running)))
                 told = True
             info = signal.sigtimedwait(WAITED, LOOK if running else MOMENT)
-            if info is None or info.si_signo == signal.SIGCHLD or self.is_asked(info):
+            if info is None or is_news_alone(info) or self.is_asked(info):
                 continue
             if stop:
                 return False

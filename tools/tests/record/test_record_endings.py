@@ -1,6 +1,7 @@
 """However a program ends there is its whole trace, and its status is the recorder's."""
 
 import signal
+import subprocess
 
 import pytest
 from c_traces import PAIR, expect, known, record
@@ -34,6 +35,19 @@ def test_signals_are_handed_on(number):
     _, said = running.communicate(timeout=LIMIT)
     assert running.returncode == 128 + number, "%d: %s" % (running.returncode, said.decode())
     compare(read_lines("t.std"), known(PAIR))
+
+
+def test_signal_by_which_servers_are_told_to_end():
+    """Of a window's size by its name: nothing, where nobody handles it."""
+    waits = "trap './locks table; exit 9' WINCH; echo ready $$; while :; do sleep 0.1; done"
+    running, _ = start(RECORD, ["sh", "-c", waits])
+    running.send_signal(signal.SIGWINCH)
+    try:
+        _, said = running.communicate(timeout=20)
+    except subprocess.TimeoutExpired:
+        running.terminate()
+        _, said = running.communicate(timeout=LIMIT)
+    assert running.returncode == 9 and b": 2 events" in said, "%d: %s" % (running.returncode, said.decode())
 
 
 def test_program_that_aborts():

@@ -1,5 +1,6 @@
 """Processes: each has a trace of its own, those that outlive the program are waited for, and nobody else is touched."""
 
+import fcntl
 import os
 import re
 import shutil
@@ -7,6 +8,7 @@ import signal
 import struct
 import subprocess
 import tempfile
+import termios
 
 import pytest
 from c_programs import end, has_ended, raw_directories, raw_directory
@@ -272,6 +274,35 @@ def is_pending(process, number):
     with open("/proc/%d/status" % process) as file:
         words = dict(line.split(":", 1) for line in file if ":" in line)
     return int(words["ShdPnd"], 16) >> (number - 1) & 1 != 0
+
+
+def takes_terminal():
+    """The present process's standard input is a terminal, and becomes that of a session of its own."""
+    os.setsid()
+    fcntl.ioctl(0, termios.TIOCSCTTY, 0)
+
+
+def test_window_that_changes_its_size():
+    """The terminal tells all that run in it: nothing is handed on, and this doesn't end the waiting."""
+    terminal, inner = os.openpty()
+    running = subprocess.Popen(
+        [RECORD, "-o", "t.std", "./locks", "waits_in_background"],
+        stdin=inner,
+        stdout=subprocess.PIPE,
+        stderr=subprocess.PIPE,
+        preexec_fn=takes_terminal,
+    )
+    background = int(read_line(running.stdout))
+    assert b"waiting for process %d" % background in read_line(running.stderr), "it doesn't wait"
+    for rows in (30, 40):
+        fcntl.ioctl(terminal, termios.TIOCSWINSZ, struct.pack("4H", rows, 80, 0, 0))
+        with pytest.raises(subprocess.TimeoutExpired):
+            running.wait(1)
+    running.terminate()
+    _, said = running.communicate(timeout=LIMIT)
+    os.close(terminal)
+    os.close(inner)
+    assert running.returncode == 0 and b"still running" not in said, said.decode()
 
 
 def test_second_signal_leaves_what_runs():
