@@ -10,7 +10,6 @@
 #define _GNU_SOURCE
 #include <errno.h>
 #include <fcntl.h>
-#include <sched.h>
 #include <signal.h>
 #include <stdio.h>
 #include <stdlib.h>
@@ -127,14 +126,13 @@ static uint64_t waiters_enter(void)
 {
     uint64_t every = ~0ull, before = 0;
     syscall(SYS_rt_sigprocmask, SIG_BLOCK, &every, &before, sizeof before);
-    while (__atomic_exchange_n(&waiters_lock, 1, __ATOMIC_ACQUIRE))
-        sched_yield();
+    inner_take(&waiters_lock);
     return before;
 }
 
 static void waiters_leave(uint64_t signals)
 {
-    __atomic_store_n(&waiters_lock, 0, __ATOMIC_RELEASE);
+    inner_leave(&waiters_lock);
     syscall(SYS_rt_sigprocmask, SIG_SETMASK, &signals, NULL, sizeof signals);
 }
 

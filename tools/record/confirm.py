@@ -396,7 +396,8 @@ def outcome_of(settings, finding, directory, preload):
         processes = run.processes()
         if not processes:
             raise Failed(
-                "nothing was recorded: is the program statically linked, set-user-id or of another machine type?"
+                "nothing was recorded: is the program statically linked, set-user-id, with file capabilities or of another "
+                "machine type?"
             )
         if run.cycle:
             deadlock = Deadlock(run, processes, places)

@@ -9,12 +9,56 @@
 #include "process.h"
 #include "real.h"
 
-/* A child of vfork calls from its parent's memory, and a process may be forked past the handlers: neither is the one
- * whose mark this is. */
+/* --- Which process this is ------------------------------------------------------------------------------------ */
+
+/* A child of vfork or clone calls from its parent's memory, whose mark isn't its own. The system is asked which process
+ * this is only where there may be such a child: who has forbidden itself system calls would be ended for it. So these
+ * two functions, which may return twice, put down that they are called, and jump to those of the C library, with the
+ * stack and the registers as they were. On other machines the system is asked each time. */
+#ifdef __x86_64__
+
+uint32_t pid_in_doubt;
+
+#define PUTS_DOWN(name) \
+    __asm__(".pushsection .text\n" \
+            ".globl " #name "\n" \
+            ".type " #name ", @function\n" #name ":\n" \
+            "    endbr64\n" \
+            "    movl $1, pid_in_doubt(%rip)\n" \
+            "    cmpl $0, real_found(%rip)\n" \
+            "    jne 1f\n" \
+            "    pushq %rdi\n" \
+            "    pushq %rsi\n" \
+            "    pushq %rdx\n" \
+            "    pushq %rcx\n" \
+            "    pushq %r8\n" \
+            "    pushq %r9\n" \
+            "    subq $8, %rsp\n" \
+            "    call real_find\n" \
+            "    addq $8, %rsp\n" \
+            "    popq %r9\n" \
+            "    popq %r8\n" \
+            "    popq %rcx\n" \
+            "    popq %rdx\n" \
+            "    popq %rsi\n" \
+            "    popq %rdi\n" \
+            "1:  jmp *real_" #name "(%rip)\n" \
+            ".size " #name ", . - " #name "\n" \
+            ".popsection\n")
+
+PUTS_DOWN(vfork);
+PUTS_DOWN(clone);
+
+#else
+
+uint32_t pid_in_doubt = 1;
+
+#endif
+
 static void end_mark(enum end_kind how)
 {
     struct end_record *end = process.end;
-    if (end && process.pid == (uint64_t)getpid())
+    if (end && (!pid_in_doubt || process.pid == (uint64_t)getpid()))
         __atomic_store_n(&end->how, (uint64_t)how, __ATOMIC_RELEASE);
 }
 

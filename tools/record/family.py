@@ -7,7 +7,15 @@ import time
 from recording import living_thread, maps_file, names_in_proc
 
 PR_SET_CHILD_SUBREAPER = 36
-FORWARDED = (signal.SIGINT, signal.SIGTERM, signal.SIGHUP, signal.SIGQUIT, signal.SIGUSR1, signal.SIGUSR2)
+FORWARDED = (
+    signal.SIGINT,
+    signal.SIGTERM,
+    signal.SIGHUP,
+    signal.SIGQUIT,
+    signal.SIGUSR1,
+    signal.SIGUSR2,
+    signal.SIGWINCH,
+)
 WAITED = FORWARDED + (signal.SIGCHLD,)
 # A signal that the kernel sent, as a terminal does on Ctrl-C: the program got it already.
 FROM_KERNEL = 128
@@ -91,6 +99,19 @@ def descendants(strangers=()):
     return found
 
 
+def is_news_alone(info):
+    """Whether a signal asks for nothing: a child has ended, or a terminal, as it tells all that run in it, has another size."""
+    if info.si_signo == signal.SIGWINCH:
+        return info.si_code == FROM_KERNEL
+    return info.si_signo == signal.SIGCHLD
+
+
+def told_to_run_on(processes):
+    """These processes, in words."""
+    numbers = ", ".join(map(str, processes))
+    return "process %s, which runs on" % numbers if len(processes) == 1 else "processes %s, which run on" % numbers
+
+
 def send_signal(process, number, members):
     """To a process, held fast before it is looked at again whether it is among the members."""
     try:
@@ -164,7 +185,7 @@ class Family:
             info = signal.sigwaitinfo(WAITED)
             if self.is_asked(info):
                 continue
-            if info.si_signo != signal.SIGCHLD and info.si_code != FROM_KERNEL:
+            if not is_news_alone(info) and info.si_code != FROM_KERNEL:
                 os.kill(process, info.si_signo)  # not waited for yet: its number is its own
 
     def hand_on(self, number):
@@ -188,10 +209,10 @@ class Family:
             if running:
                 limit = time.monotonic() + BEGIN_LIMIT
             if running and not told:
-                self.say("waiting for process %s, which runs on" % ", ".join(map(str, sorted(running))))
+                self.say("waiting for " + told_to_run_on(sorted(running)))
                 told = True
             info = signal.sigtimedwait(WAITED, LOOK if running else MOMENT)
-            if info is None or info.si_signo == signal.SIGCHLD or self.is_asked(info):
+            if info is None or is_news_alone(info) or self.is_asked(info):
                 continue
             if stop:
                 return False

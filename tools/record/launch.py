@@ -90,7 +90,10 @@ class Recorder:
         """Why there is no event."""
         if loaded:
             return "the program took no lock and made no thread by a call that can be recorded, or there was no room"
-        return "the recorder wasn't loaded: is the program statically linked, set-user-id or of another machine type?"
+        return (
+            "the recorder wasn't loaded: is the program statically linked, set-user-id, with file capabilities or of another "
+            "machine type?"
+        )
 
 
 recorder = Recorder()
@@ -426,7 +429,8 @@ def say_what_became(recording, summaries, running):
         who = "%s became a program that wasn't" % gone[0]
         if len(gone) > 1:
             who = "%d processes became programs that weren't" % len(gone)
-        say(who + " recorded: statically linked, set-user-id, of another machine type, or with a cleared environment?")
+        kinds = "statically linked, set-user-id, with file capabilities, of another machine type"
+        say("%s recorded: %s, or with a cleared environment or an LD_PRELOAD of its own?" % (who, kinds))
     return bool(gone)
 
 

@@ -2,7 +2,7 @@
  * calls that change a process's user or root. */
 #define _GNU_SOURCE
 #include <dlfcn.h>
-#include <sched.h>
+#include <limits.h>
 #include <string.h>
 #include <unistd.h>
 
@@ -66,23 +66,28 @@ EXPORTED void call_once(once_flag *once, void (*routine)(void))
 
 /* The functions of the C++ library, which a program in C may have loaded for a plugin alone; where there is none, as
  * for a plugin with a library of its own, these here do the same. */
-static int guard_take(uint64_t *guard)
-{
-    unsigned char *done = (unsigned char *)guard, *taken = done + 1;
-    while (!__atomic_load_n(done, __ATOMIC_ACQUIRE)) {
-        if (!__atomic_exchange_n(taken, 1, __ATOMIC_ACQUIRE)) {
-            if (!__atomic_load_n(done, __ATOMIC_ACQUIRE))
-                return 1;
-            __atomic_store_n(taken, 0, __ATOMIC_RELEASE);
-        }
-        sched_yield();
-    }
-    return 0;
-}
-
 static void guard_leave(uint64_t *guard)
 {
     __atomic_store_n((unsigned char *)guard + 1, 0, __ATOMIC_RELEASE);
+    word_wake(guard, INT_MAX);
+}
+
+static int guard_take(uint64_t *guard)
+{
+    unsigned char *done = (unsigned char *)guard, *taken = done + 1;
+    const int *both = (const void *)guard;
+    for (;;) {
+        int before = __atomic_load_n(both, __ATOMIC_ACQUIRE);
+        if (__atomic_load_n(done, __ATOMIC_ACQUIRE))
+            return 0;
+        if (__atomic_exchange_n(taken, 1, __ATOMIC_ACQUIRE)) {
+            word_wait(both, before);
+        } else {
+            if (!__atomic_load_n(done, __ATOMIC_ACQUIRE))
+                return 1;
+            guard_leave(guard);
+        }
+    }
 }
 
 static void guard_finish(uint64_t *guard)

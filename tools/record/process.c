@@ -2,7 +2,8 @@
 #define _GNU_SOURCE
 #include <errno.h>
 #include <fcntl.h>
-#include <sched.h>
+#include <limits.h>
+#include <linux/futex.h>
 #include <signal.h>
 #include <stdio.h>
 #include <stdlib.h>
@@ -29,6 +30,41 @@ struct process process;
 struct thread thread_none;
 __thread struct thread *current_thread = &thread_none;
 static __thread int in_slow_part;
+
+/* --- Waiting for other threads -------------------------------------------------------------------------- */
+
+/* Who waits sleeps. Were it to yield its processor instead, again and again, a thread of a lower priority that runs on
+ * the same one would never come to what is waited for: to yield gives way to no lower priority. */
+void word_wait(const void *word, int value)
+{
+    int error = errno;
+    syscall(SYS_futex, word, FUTEX_WAIT_PRIVATE, value, NULL, NULL, 0);
+    errno = error;
+}
+
+void word_wake(const void *word, int count)
+{
+    int error = errno;
+    syscall(SYS_futex, word, FUTEX_WAKE_PRIVATE, count, NULL, NULL, 0);
+    errno = error;
+}
+
+enum { INNER_FREE = 0, INNER_TAKEN = 1, INNER_AWAITED = 2 };
+
+void inner_take(int *lock)
+{
+    int found = INNER_FREE;
+    if (likely(__atomic_compare_exchange_n(lock, &found, INNER_TAKEN, 0, __ATOMIC_ACQUIRE, __ATOMIC_RELAXED)))
+        return;
+    while (__atomic_exchange_n(lock, INNER_AWAITED, __ATOMIC_ACQUIRE) != INNER_FREE)
+        word_wait(lock, INNER_AWAITED);
+}
+
+void inner_leave(int *lock)
+{
+    if (unlikely(__atomic_exchange_n(lock, INNER_FREE, __ATOMIC_RELEASE) == INNER_AWAITED))
+        word_wake(lock, 1);
+}
 
 /* --- Slow parts ----------------------------------------------------------------------------------------- */
 
@@ -68,8 +104,7 @@ void slow_enter(struct slow_state *state)
     state->error = errno;
     signals_shut_out(&state->signals);
     pthread_setcancelstate(PTHREAD_CANCEL_DISABLE, &state->cancel_state);
-    while (__atomic_exchange_n(&process.slow_lock, 1, __ATOMIC_ACQUIRE))
-        sched_yield();
+    inner_take(&process.slow_lock);
     state->thread = current_thread;
     current_thread = &thread_none;
     in_slow_part = 1;
@@ -79,7 +114,7 @@ void slow_leave(struct slow_state *state)
 {
     current_thread = state->thread;
     in_slow_part = 0;
-    __atomic_store_n(&process.slow_lock, 0, __ATOMIC_RELEASE);
+    inner_leave(&process.slow_lock);
     signals_let_in(&state->signals);
     errno = state->error;
     pthread_setcancelstate(state->cancel_state, NULL);
@@ -109,15 +144,17 @@ void visit_begin(uint64_t *signals)
 void visit_end(const uint64_t *signals)
 {
     visitors_add(-1);
+    word_wake(&process.visitors, INT_MAX);
     signals_let_in(signals);
 }
 
 /* Into a slow part in which nobody visits. */
 static void slow_enter_alone(struct slow_state *state)
 {
-    for (slow_enter(state); process.visitors > 0; slow_enter(state)) {
+    int visitors;
+    for (slow_enter(state); (visitors = process.visitors) > 0; slow_enter(state)) {
         slow_leave(state);
-        sched_yield();
+        word_wait(&process.visitors, visitors);
     }
 }
 
@@ -135,13 +172,15 @@ void pages_drop(void *pages, size_t bytes)
     syscall(SYS_munmap, pages, bytes);
 }
 
-/* Makes pages zero in a forked child. A kernel before 4.14 can't; the handlers of a fork don't need it. */
-static void wipe_on_fork(void *pages, size_t bytes)
+/* Makes pages zero in a forked child; whether that can be done. A kernel before 4.14 can't; the handlers of a fork
+ * don't need it. */
+static int wipe_on_fork(void *pages, size_t bytes)
 {
 #ifdef MADV_WIPEONFORK
-    madvise(pages, bytes, MADV_WIPEONFORK);
+    return madvise(pages, bytes, MADV_WIPEONFORK) == 0;
 #else
     (void)pages, (void)bytes;
+    return 0;
 #endif
 }
 
@@ -515,7 +554,8 @@ static void process_settings(void)
 /* Begins the files of this process. A forked child keeps its parent's numbers of locks and sites. */
 static void process_start(const struct process *parent)
 {
-    wipe_on_fork(&process, sizeof process);
+    if (!wipe_on_fork(&process, sizeof process))
+        pid_in_doubt = 1; /* a child may be forked past the handlers */
     process.pid = (uint64_t)getpid();
     process.next_lock = parent ? parent->next_lock : 1;
     process.next_site = parent ? parent->next_site : 1;

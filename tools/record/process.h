@@ -16,11 +16,22 @@ int process_ready(void);
 /* Sees to it that the end of this process is marked in its file. */
 void endings_start(void);
 
+/* Whether a process of another number may call from this memory. */
+extern uint32_t pid_in_doubt;
+
 /* Before this process becomes that user. */
 void user_directory(uid_t user);
 
 /* Whether the present thread is between slow_enter and slow_leave. */
 int slow_inside(void);
+
+/* Sleeps while the word of 32 bits has this value, or shorter; wakes so many of those that sleep there. */
+void word_wait(const void *word, int value);
+void word_wake(const void *word, int count);
+
+/* A lock of the recorder's own, which is zero at first. */
+void inner_take(int *lock);
+void inner_leave(int *lock);
 
 /* Shut all signals out, and let in again those that were let in before. */
 void signals_shut_out(uint64_t *before);

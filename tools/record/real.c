@@ -6,6 +6,7 @@
 
 static int finding;
 int real_found;
+void *real_vfork, *real_clone;
 
 /* dlsym may allocate, and an allocator may take a lock. It comes here before its lock's function is found
  * (`finding`); no second thread runs that early, so the lock may be passed over. */
@@ -55,6 +56,8 @@ int real_find(void)
         all.pthread_cond_timedwait = (int (*)(pthread_cond_t *, pthread_mutex_t *, deadline_t))timed_wait;
 #endif
     all.malloc_usable_size = usable_size_of((void *)all.free);
+    real_vfork = dlsym(RTLD_NEXT, "vfork");
+    real_clone = dlsym(RTLD_NEXT, "clone");
     function = dlsym(RTLD_NEXT, "pthread_attr_getsigmask_np");
     all.pthread_attr_getsigmask_np = (int (*)(const pthread_attr_t *, sigset_t *))function;
     real = all;

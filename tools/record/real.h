@@ -92,6 +92,9 @@ struct real_functions {
 extern struct real_functions real;
 extern int real_found;
 
+/* These two are jumped to alone (endings.c). */
+extern void *real_vfork, *real_clone;
+
 /* Finds the functions, the first time; whether they are found. Until then, and where there is none, a stand-in
  * is called that does nothing. */
 int real_find(void);

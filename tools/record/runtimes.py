@@ -87,6 +87,14 @@ def runtimes_in(path):
     return [runtime for runtime in RUNTIMES if runtime.mark and runtime.mark.search(data)]
 
 
+def who_has(processes):
+    """The processes that have a runtime, in words; none where the program's file alone tells."""
+    numbers = ", ".join("%d" % process for process in processes)
+    if len(processes) > 1:
+        return "processes %s have" % numbers
+    return "process %s has" % numbers if numbers else "this is"
+
+
 def runtime_lines(processes, command):
     """A line for each runtime that a process of these had; else, for one that the program's file has."""
     found = {}
@@ -103,5 +111,4 @@ def runtime_lines(processes, command):
         found = {runtime: {} for runtime in (runtimes_in(path) if path else [])}
     for runtime in RUNTIMES:
         if runtime in found:
-            numbers = ", ".join("%d" % number for number in found[runtime])
-            yield "%s%s: %s" % ("process %s has " % numbers if numbers else "this is ", runtime.name, runtime.advice)
+            yield "%s %s: %s" % (who_has(found[runtime]), runtime.name, runtime.advice)

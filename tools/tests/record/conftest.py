@@ -19,7 +19,7 @@ def programs(tmp_path_factory):
     build("gcc", C_FLAGS + ["-O1", "-o", "locks", source("locks.c")], folder)
     build("gcc", C_FLAGS + ["-O1", "-g0", "-o", "locks-without-lines", source("locks.c")], folder)
     build("gcc", C_FLAGS + ["-O1", "-static", "-o", "locks-static", source("locks.c")], folder)
-    for name in ("random", "walks", "storm", "interrupted", "forking", "thousands", "numbers", "born"):
+    for name in ("random", "walks", "storm", "interrupted", "forking", "thousands", "numbers", "born", "sealed"):
         build("gcc", C_FLAGS + ["-O1", "-o", name, source(name + ".c")], folder)
     build("g++", C_FLAGS + ["-std=c++17", "-O0", "-o", "wrappers-O0", source("wrappers.cc")], folder)
     build("g++", C_FLAGS + ["-std=c++17", "-O2", "-o", "wrappers-O2", source("wrappers.cc")], folder)
@@ -28,6 +28,7 @@ def programs(tmp_path_factory):
     if shutil.which("clang++"):
         flags = ["-std=c++17", "-O1", "-gdwarf-4"]  # whose inlined calls binutils reads
         build("clang++", C_FLAGS + flags + ["-o", "wrappers-clang", source("wrappers.cc")], folder)
+    build("gcc", C_FLAGS + ["-O1", "-o", "priority", source("priority.c"), "-ldl"], folder)
     build("g++", C_FLAGS + ["-std=c++17", "-O0", "-o", "once", source("once.cc")], folder)
     build("gcc", C_FLAGS + ["-O1", "-rdynamic", "-o", "memory", source("memory.c"), "-ldl"], folder)
     build("gcc", C_FLAGS + ["-O1", "-shared", "-fPIC", "-o", "moves.so", source("moves.c")], folder)

@@ -1,6 +1,7 @@
 """However a program ends there is its whole trace, and its status is the recorder's."""
 
 import signal
+import subprocess
 
 import pytest
 from c_traces import PAIR, expect, known, record
@@ -36,6 +37,19 @@ def test_signals_are_handed_on(number):
     compare(read_lines("t.std"), known(PAIR))
 
 
+def test_signal_by_which_servers_are_told_to_end():
+    """Of a window's size by its name: nothing, where nobody handles it."""
+    waits = "trap './locks table; exit 9' WINCH; echo ready $$; while :; do sleep 0.1; done"
+    running, _ = start(RECORD, ["sh", "-c", waits])
+    running.send_signal(signal.SIGWINCH)
+    try:
+        _, said = running.communicate(timeout=20)
+    except subprocess.TimeoutExpired:
+        running.terminate()
+        _, said = running.communicate(timeout=LIMIT)
+    assert running.returncode == 9 and b": 2 events" in said, "%d: %s" % (running.returncode, said.decode())
+
+
 def test_program_that_aborts():
     expect("aborts", PAIR, status=128 + signal.SIGABRT)
 
@@ -48,6 +62,17 @@ def test_program_that_clears_its_environment():
     expect("clears_environment", PAIR)
 
 
+@pytest.mark.parametrize("options", [(), ("--live",)], ids=["trace", "live"])
+@pytest.mark.parametrize("way", ["by_return", "at_once", "quickly"])
+def test_program_that_may_only_end(way, options):
+    """The recorder asks nothing of the system as it ends."""
+    run = record("./sealed", way, options=options)
+    if run.status == 77:
+        pytest.skip("no program may forbid itself system calls here")
+    assert run.status == 7, "status %d: %s" % (run.status, run.said)
+    assert not options or "0 cycles; settled" in run.said, run.said
+
+
 def test_no_events_is_an_error():
     run = record("./locks", "nothing")
     assert run.status == NO_EVENTS and run.files() == [], "%d %s" % (run.status, run.files())
@@ -57,7 +82,7 @@ def test_no_events_is_an_error():
 def test_static_program_is_an_error():
     run = record("./locks-static", "mutexes")
     assert run.status == NO_EVENTS and run.files() == [], "%d %s" % (run.status, run.files())
-    assert "statically linked" in run.said, run.said
+    assert "is the program statically linked, set-user-id, with file capabilities or of" in run.said, run.said
 
 
 def test_program_that_is_missing():

@@ -1,10 +1,14 @@
 """Processes: each has a trace of its own, those that outlive the program are waited for, and nobody else is touched."""
 
+import fcntl
 import os
+import re
 import shutil
 import signal
+import struct
 import subprocess
 import tempfile
+import termios
 
 import pytest
 from c_programs import end, has_ended, raw_directories, raw_directory
@@ -146,6 +150,27 @@ def test_program_that_becomes_one_that_cannot_be_recorded(words, options):
     assert "the program became one that wasn't recorded (" in run.said, run.said
 
 
+def test_program_with_another_preload_library():
+    run = record("env", "LD_PRELOAD=" + os.path.abspath("liblibrary.so"), "./locks", "table")
+    assert run.status == NO_EVENTS, "%d: %s" % (run.status, run.said)
+    assert "became a program that wasn't recorded: " in run.said, run.said
+    assert "or an LD_PRELOAD of its own?" in run.said, run.said
+
+
+def test_program_with_file_capabilities(open_folder):
+    """The system takes care that nobody loads a library into it."""
+    if not shutil.which("setpriv"):
+        pytest.skip("setpriv isn't there")
+    try:
+        os.setxattr("locks", "security.capability", struct.pack("<5I", 0x02000001, 1 << 10, 0, 0, 0))
+    except OSError:
+        pytest.skip("no file may have capabilities here")
+    run = record("setpriv", "--reuid=65534", "--clear-groups", "./locks", "table")
+    assert run.status == 0, "%d: %s" % (run.status, run.said)
+    assert "became a program that wasn't recorded: " in run.said, run.said
+    assert "with file capabilities" in run.said, run.said
+
+
 def test_children_of_a_shell():
     run = record("sh", "-c", "./locks leaves_at_once; ./locks table; exit 3")
     assert run.status == 3, run.said
@@ -182,6 +207,17 @@ def test_process_in_the_background():
     assert len(files) == 2, str(files)
     compare(read_lines("t.std"), known(PAIR))
     assert len(read_lines(files[1])) == 4, files[1]
+
+
+def test_processes_in_the_background():
+    background = "./locks goes_to_background; ./locks goes_to_background; sleep 1"
+    running = subprocess.Popen(
+        [RECORD, "-o", "t.std", "sh", "-c", background], stdin=subprocess.PIPE, stderr=subprocess.PIPE
+    )
+    said = read_line(running.stderr).decode()
+    assert re.fullmatch(r"goodlock-record: waiting for processes \d+, \d+, which run on\n", said), said
+    _, said = running.communicate(timeout=LIMIT)
+    assert running.returncode == 0, said.decode()
 
 
 def test_process_in_the_background_whose_first_thread_has_ended():
@@ -238,6 +274,35 @@ def is_pending(process, number):
     with open("/proc/%d/status" % process) as file:
         words = dict(line.split(":", 1) for line in file if ":" in line)
     return int(words["ShdPnd"], 16) >> (number - 1) & 1 != 0
+
+
+def takes_terminal():
+    """The present process's standard input is a terminal, and becomes that of a session of its own."""
+    os.setsid()
+    fcntl.ioctl(0, termios.TIOCSCTTY, 0)
+
+
+def test_window_that_changes_its_size():
+    """The terminal tells all that run in it: nothing is handed on, and this doesn't end the waiting."""
+    terminal, inner = os.openpty()
+    running = subprocess.Popen(
+        [RECORD, "-o", "t.std", "./locks", "waits_in_background"],
+        stdin=inner,
+        stdout=subprocess.PIPE,
+        stderr=subprocess.PIPE,
+        preexec_fn=takes_terminal,
+    )
+    background = int(read_line(running.stdout))
+    assert b"waiting for process %d" % background in read_line(running.stderr), "it doesn't wait"
+    for rows in (30, 40):
+        fcntl.ioctl(terminal, termios.TIOCSWINSZ, struct.pack("4H", rows, 80, 0, 0))
+        with pytest.raises(subprocess.TimeoutExpired):
+            running.wait(1)
+    running.terminate()
+    _, said = running.communicate(timeout=LIMIT)
+    os.close(terminal)
+    os.close(inner)
+    assert running.returncode == 0 and b"still running" not in said, said.decode()
 
 
 def test_second_signal_leaves_what_runs():

@@ -1,5 +1,7 @@
 """What goodlock-record says of language runtimes, whose locks it doesn't see."""
 
+import re
+
 from known_traces import NO_EVENTS, RECORD, Run
 
 
@@ -42,6 +44,12 @@ def test_openmp():
     for program in ("uses-libgomp", "uses-libomp"):
         said = said_of(program)
         assert "has OpenMP: its locks and critical sections" in said, said
+
+
+def test_several_processes():
+    run = Run(RECORD, ["sh", "-c", "./uses-libgomp; ./uses-libgomp"])
+    assert run.status == 0, "status %d: %s" % (run.status, run.said)
+    assert re.search(r"processes \d+, \d+ have OpenMP: its locks", run.said), run.said
 
 
 def test_glib():
