@@ -90,12 +90,13 @@ def in_order(crates, processes, work, told):
 
 def begun(work, crate, jobs, nice):
     """What work(crate, jobs) will have answered, with its jobs and its seconds on the clock. It works in a thread of its
-    own, and what that starts is as nice as it is."""
+    own, which is so much nicer than this process, and what that starts is as nice as it is."""
     answer = Future()
 
     def run():
         try:
-            os.setpriority(os.PRIO_PROCESS, threading.get_native_id(), max(nice, os.getpriority(os.PRIO_PROCESS, 0)))
+            own = os.getpriority(os.PRIO_PROCESS, 0)
+            os.setpriority(os.PRIO_PROCESS, threading.get_native_id(), min(own + nice, 19))
             start = time.monotonic()
             well, said = work(crate, jobs)
             answer.set_result((jobs, well, said, time.monotonic() - start))
