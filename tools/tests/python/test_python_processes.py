@@ -169,7 +169,8 @@ def test_recorded_by_both_recorders():
     assert run.status == 0, run.said
     with open("p.std") as file:
         assert len(file.readlines()) == MUTEXES, "the Python code's trace"
-    assert "has CPython: the locks of Python code" in run.said and "tools/goodlock-python" in run.said, run.said
+    told = "have CPython: the locks of Python code"  # the recorder of Python code and the program
+    assert told in run.said and "tools/goodlock-python" in run.said, run.said
     assert any(name.startswith("t.std") for name in run.files()), "%s: %s" % (run.files(), run.said)
 
 
