@@ -12,7 +12,7 @@ const LANES: usize = 16;
 const NEAR: usize = 64;
 
 /// The first place of the byte from here on. It looks at 16 bytes in a step, up to 64, and then goes on
-/// as a search in long texts does.
+/// as a search in long texts does; fewer than 16 bytes are looked at one by one.
 #[inline(always)]
 pub fn find_from(byte: u8, text: &[u8], from: usize) -> Option<usize>
     requires { from ≤ length text.now }

@@ -39,6 +39,14 @@ impl Print {
     fn second_place(self, count: usize) -> usize {
         place_of(self.mark.wrapping_mul(SECOND_SPREAD), count)
     }
+
+    // Where a guess goes among more places, if this place among so many is one of its own.
+    fn place_again(self, place: usize, count: usize, more: usize) -> Option<usize> {
+        if self.first_place(count) == place {
+            return Some(self.first_place(more));
+        }
+        (self.second_place(count) == place).then(|| self.second_place(more))
+    }
 }
 
 // A place among so many, a power of two: as many of the uppermost bits as it takes.
@@ -88,6 +96,12 @@ struct Guess {
     number: u32,
 }
 
+// What stands where no guess was put.
+const NONE: Guess = Guess {
+    print: Print { mark: 0 },
+    number: 0,
+};
+
 /// Numbers of names that were put lately, by their prints. Each has two places where it may stand, so that
 /// two names of one place are both known.
 ///
@@ -106,19 +120,35 @@ impl Guesses {
         }
     }
 
-    /// Takes memory for more guesses, where they are no more than twice as many as the names. Half of those
-    /// that were put stay.
+    /// Takes memory for more guesses, where they are no more than twice as many as the names. Those that
+    /// were put stay.
     pub(crate) fn make_room(&mut self, names: usize) -> Result<(), AllocError> {
         let count = self.guesses.len();
         if count / 2 > names {
             return Ok(());
         }
         let more = if count == 0 { PLACES } else { count };
-        let none = Guess {
-            print: Print { mark: 0 },
-            number: 0,
-        };
-        self.guesses.resize(count.saturating_add(more), none)
+        self.guesses.resize(count.saturating_add(more), NONE)?;
+        self.put_again(count);
+        Ok(())
+    }
+
+    // Puts the guesses of the first places, so many, where they stand among twice as many: the last one
+    // first, since a guess goes to twice its place or to the one after, where none waits any more.
+    fn put_again(&mut self, count: usize) {
+        let more = self.guesses.len();
+        for place in (0..count).rev() {
+            let Some(guess) = self.guesses.get_mut(place) else {
+                return;
+            };
+            let before = std::mem::replace(guess, NONE);
+            let Some(again) = before.print.place_again(place, count, more) else {
+                continue;
+            };
+            if let Some(guess) = self.guesses.get_mut(again) {
+                *guess = before;
+            }
+        }
     }
 
     /// A number that a name with this print may have.
