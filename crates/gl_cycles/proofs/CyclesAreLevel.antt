@@ -10,10 +10,10 @@ use Rattle.gl_filters.specs.declared.query.Mode.{Mode}
 use Rattle.gl_filters.proofs.Cycling.{test_from_cycle}
 use Rattle.gl_filters.specs.Picked.{picked}
 use Rattle.gl_cycles.specs.AllCycles.{all_cycles}
-use Rattle.gl_pruning.specs.Loops.{IsNeverFalling}
+use Rattle.gl_loops.specs.Loops.{IsNeverFalling}
 use Rattle.gl_cycles.proofs.AmongAllCycles.{there_is_cycle}
-use Rattle.gl_pruning.proofs.Level.{loop_is_level}
-use Rattle.gl_pruning.proofs.Off.{loop_from_cycle}
+use Rattle.gl_loops.proofs.Level.{loop_is_level}
+use Rattle.gl_loops.proofs.Off.{loop_from_cycle}
 
 -- what stands at a place is in the list
 contains_at : (edges : List Edge) (i : ℕ) (e : Edge) → slice_get edges i ≡ Some e → Contains edges e

@@ -13,7 +13,7 @@ use Rattle.gl_filters.proofs.Cycling.{cycle_from_test}
 use Rattle.gl_filters.specs.Picked.{picked}
 use Rattle.gl_cycles.specs.AllCycles.{lists_below}
 use Rattle.gl_cycles.specs.bodies.Blocks.{block}
-use Rattle.gl_pruning.specs.OffCycles.{IsOffCycles}
+use Rattle.gl_sought.specs.OffCycles.{IsOffCycles}
 use Rattle.gl_cycles.proofs.BelowFronts.{picked-append, picked-push}
 use Rattle.gl_cycles.proofs.CyclesAreLevel.{picked_among}
 use Rattle.gl_cycles.proofs.AmongAllCycles.{lists_from}

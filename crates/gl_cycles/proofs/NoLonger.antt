@@ -11,7 +11,7 @@ use Rattle.gl_filters.specs.Test.{is_cycle}
 use Rattle.gl_filters.specs.Picked.{picked, edges_of_table}
 use Rattle.gl_filters.proofs.Cycling.{cycle_from_test}
 use Rattle.gl_segments.specs.Clocks.{is_before}
-use Rattle.gl_pruning.specs.declared.sought.Sought.{Sought}
+use Rattle.gl_sought.specs.declared.sought.Sought.{Sought}
 use Rattle.gl_cycles.specs.AllCycles.{lists_below, all_cycles}
 use Rattle.gl_cycles.specs.bodies.Blocks.{block, upto}
 use Rattle.gl_cycles.proofs.AmongAllCycles.{lists_from}

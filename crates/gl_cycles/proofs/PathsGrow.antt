@@ -13,7 +13,7 @@ use Rattle.gl_cycles.specs.AllCycles.{all_cycles}
 use Rattle.gl_cycles.specs.bodies.Blocks.{block, upto, blocks_below}
 use Rattle.gl_index.specs.Listed.{IsNextWith}
 use Rattle.gl_index.specs.Indexes.{held_lock, both_locks}
-use Rattle.gl_pruning.specs.OffCycles.{IsOffCycles}
+use Rattle.gl_sought.specs.OffCycles.{IsOffCycles}
 use Rattle.gl_cycles.proofs.ListsOfPositions.{upto-more, upto-until, take-take_append, take-full}
 use Rattle.gl_cycles.proofs.BelowFronts.{all_cycles-block, block-zero, block-suc, block-stray, not_led_on, none_after_closed, picked-push}
 use Rattle.gl_filters.proofs.Paths.{is_path_push}

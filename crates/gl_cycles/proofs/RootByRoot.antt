@@ -6,7 +6,7 @@ use Rattle.gl_filters.specs.Picked.{edges_of_table}
 use Rattle.gl_cycles.specs.AllCycles.{all_cycles}
 use Rattle.gl_cycles.specs.bodies.Blocks.{block, blocks_below}
 use Rattle.gl_cycles.specs.bodies.Searching.{HasFound}
-use Rattle.gl_pruning.specs.declared.sought.Sought.{Sought}
+use Rattle.gl_sought.specs.declared.sought.Sought.{Sought}
 use Rattle.gl_cycles.proofs.PathsGrow.{all_from_roots, grow_full, roots_more, length-first}
 use Rattle.gl_cycles.proofs.RootsJoined.{take_append-take}
 

@@ -8,7 +8,7 @@ ghost use Rattle.std.specs.Ordering.{nat_cmp};
 ghost use Rattle.gl_filters.specs.Picked.{picked};
 ghost use Rattle.gl_cycles.specs.AllCycles.{all_cycles};
 ghost use Rattle.gl_cycles.specs.Laws.{IsCycleAt};
-ghost use Rattle.gl_pruning.specs.Loops.{IsNeverFalling};
+ghost use Rattle.gl_loops.specs.Loops.{IsNeverFalling};
 ghost use Rattle.gl_trims.specs.Trims.{IsTrimOrder, IsTrimmed, IsWholeRemoval, removals, whole_trim};
 ghost use Rattle.gl_edges.specs.Order.{edge_cmp};
 ghost use Rattle.gl_edges.specs.declared.edge.Edge.{Edge};

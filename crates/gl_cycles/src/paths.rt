@@ -7,7 +7,7 @@ ghost use Rattle.gl_filters.specs.Test.{can_follow, goes_with, leads_back, is_pa
 ghost use Rattle.gl_filters.specs.Picked.{edges_of_table, picked};
 ghost use Rattle.gl_cycles.specs.Cycles.{cycles_in};
 ghost use Rattle.gl_cycles.specs.AllCycles.{all_cycles};
-ghost use Rattle.gl_pruning.specs.Sought.{KeepsSought};
+ghost use Rattle.gl_sought.specs.Sought.{KeepsSought};
 ghost use Rattle.gl_cycles.specs.bodies.Searching.{CanFinish, IsReady, HasFound, HasGrown, HasLimit, HasLimits, all_from, first_from, limited, sought_by};
 ghost use Rattle.gl_filters.specs.declared.steps.Stop.TheVariants.{Memory};
 ghost use Rattle.gl_edges.specs.declared.edge.Edge.{Edge};

@@ -18,14 +18,14 @@ use std::thread::Threads;
 /// ends where one cycle more than are listed was found.
 ///
 /// Edges that are in no cycle are left out, in the order of [gl_pruning]: before the search those that
-/// [a few look-ups for each edge](gl_pruning::Sought::kept_at_first) show, others
-/// [for one reason after the other](gl_pruning::Sought::leave_out_in_turn) and only where the search takes
+/// [a few look-ups for each edge](gl_pruning::kept_at_first) show, others
+/// [for one reason after the other](gl_pruning::leave_out_in_turn) and only where the search takes
 /// long. It then goes on at the edge where it stood, with more steps to take, and so on in turn.
 ///
 /// To leave out others takes no more steps than some for each that the search took before, but in the last
 /// round as many as each reason takes at most. There may be as many paths as the edges that stay to the
 /// power of the greatest length of a cycle less one. That length is the query's, or
-/// [how many edges a cycle can have](gl_pruning::Sought::shortened), where that is less.
+/// [how many edges a cycle can have](gl_pruning::shortened), where that is less.
 ///
 /// Err where memory was refused.
 pub fn search(

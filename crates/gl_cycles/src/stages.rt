@@ -26,14 +26,17 @@ ghost use Rattle.gl_segments.specs.Clocks.{is_before};
 ghost use Rattle.gl_filters.specs.Picked.{edges_of_table};
 ghost use Rattle.gl_cycles.specs.Cycles.{cycles_in};
 ghost use Rattle.gl_cycles.specs.AllCycles.{all_cycles};
-ghost use Rattle.gl_pruning.specs.Sought.{KeepsSought};
+ghost use Rattle.gl_sought.specs.Sought.{KeepsSought};
 ghost use Rattle.gl_cycles.specs.bodies.Searching.{HasFound, HasLimits};
 ghost use Rattle.gl_filters.specs.declared.lengths.TheConstants.{LONGEST};
 
 use crate::parallel;
 use crate::paths::Searcher;
 use gl_event::Memory;
-use gl_pruning::{ALL_EFFORT, Sought, leave_out_in_turn_parallel};
+use gl_pruning::{
+    ALL_EFFORT, Sought, kept_at_first, leave_out_around, leave_out_in_turn,
+    leave_out_in_turn_parallel, limits_by_edge, shortened,
+};
 use std::alloc::Global;
 use std::thread::Threads;
 
@@ -152,7 +155,7 @@ fn limits_in(
     if turn == 0 {
         return Ok(None);
     }
-    let limits = sought.limits_by_edge(alloc, kept)?;
+    let limits = limits_by_edge(sought, alloc, kept)?;
     Ok(Some(limits))
 }
 
@@ -196,11 +199,11 @@ fn leave_out_between(
     ensures { OnOk result (KeepsSought sought.now kept.new.items) }
 {
     if !is_left_out(times, root) {
-        sought.leave_out_around(alloc, effort, root, times, kept)?;
+        leave_out_around(sought, alloc, effort, root, times, kept)?;
         return Ok(());
     }
     if times.contains(&0) {
-        sought.leave_out_in_turn(alloc, effort / PARTS, kept)?;
+        leave_out_in_turn(sought, alloc, effort / PARTS, kept)?;
         *times = vec![in alloc; 1; times.len()]?;
     }
     Ok(())
@@ -268,7 +271,7 @@ fn leave_out_all(alloc: Global, sought: &Sought<'_>, kept: &mut Vec<bool>) -> Re
 {
     for _ in 0..PASSES {
         let before = count_kept(kept);
-        sought.leave_out_in_turn(alloc, ALL_EFFORT, kept)?;
+        leave_out_in_turn(sought, alloc, ALL_EFFORT, kept)?;
         let gone = before.saturating_sub(count_kept(kept));
         if gone < before / WORTH || gone == 0 {
             return Ok(());
@@ -300,13 +303,13 @@ fn first_among(
         return Ok(found);
     }
     leave_out_all(alloc, sought, &mut kept)?;
-    let limits = sought.limits_by_edge(alloc, &kept)?;
+    let limits = limits_by_edge(sought, alloc, &kept)?;
     let search = Searcher::of(alloc, sought, cap, false, kept, Some(limits))?;
     search.first_cycles(alloc, root, found)
 }
 
 /// The first cycles that are sought, up to a cap. Paths grow no longer than cycles can be, as far as
-/// [that is soon seen](Sought::shortened).
+/// [that is soon seen](shortened).
 pub(crate) fn first_cycles(
     alloc: Global,
     sought: &Sought<'_>,
@@ -320,8 +323,8 @@ pub(crate) fn first_cycles(
         (all_cycles (is_before sought.now.order.now) sought.now.mode sought.now.len
         (edges_of_table sought.now.table.now))) }
 {
-    let kept = sought.kept_at_first(alloc)?;
-    let shorter = sought.shortened(alloc, &kept)?;
+    let kept = kept_at_first(sought, alloc)?;
+    let shorter = shortened(sought, alloc, &kept)?;
     first_among(alloc, &shorter, cap, kept)
 }
 
@@ -349,7 +352,7 @@ fn first_among_parallel(
         return Ok(found);
     }
     leave_out_in_turn_parallel(rt, alloc, sought, ALL_EFFORT, &mut kept)?;
-    let limits = sought.limits_by_edge(alloc, &kept)?;
+    let limits = limits_by_edge(sought, alloc, &kept)?;
     let search = Searcher::of(alloc, sought, cap, false, kept, Some(limits))?;
     parallel::first_cycles(rt, alloc, &search, root, found)
 }
@@ -370,7 +373,7 @@ pub(crate) fn first_cycles_parallel(
         (all_cycles (is_before sought.now.order.now) sought.now.mode sought.now.len
         (edges_of_table sought.now.table.now))) }
 {
-    let kept = sought.kept_at_first(alloc)?;
-    let shorter = sought.shortened(alloc, &kept)?;
+    let kept = kept_at_first(sought, alloc)?;
+    let shorter = shortened(sought, alloc, &kept)?;
     first_among_parallel(rt, alloc, &shorter, cap, kept)
 }

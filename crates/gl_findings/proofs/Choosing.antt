@@ -22,7 +22,7 @@ use Rattle.gl_filters.specs.declared.query.Mode.{Mode}
 use Rattle.gl_filters.specs.Picked.{edges_of_table, picked}
 use Rattle.gl_filters.proofs.Cycling.{cycle_from_test, test_from_cycle}
 use Rattle.gl_cycles.specs.AllCycles.{all_cycles}
-use Rattle.gl_pruning.specs.OffCycles.{KeepsCycles}
+use Rattle.gl_sought.specs.OffCycles.{KeepsCycles}
 use Rattle.gl_cycles.specs.Laws.{IsCycleAt}
 use Rattle.gl_cycles.proofs.CyclesAscend.{cycles_ascend}
 use Rattle.gl_index.proofs.Lists.{element_at}

@@ -17,7 +17,7 @@ use Rattle.gl_filters.specs.Picked.{edges_of_table, picked}
 use Rattle.gl_filters.specs.Test.{leads_back}
 use Rattle.gl_cycles.specs.AllCycles.{all_cycles}
 use Rattle.gl_cycles.specs.Laws.{IsCycleAt}
-use Rattle.gl_pruning.specs.OffCycles.{KeepsCycles}
+use Rattle.gl_sought.specs.OffCycles.{KeepsCycles}
 use Rattle.gl_cycles.proofs.BelowFronts.{picked-append}
 use Rattle.gl_index.proofs.Lists.{element_at}
 use Rattle.gl_cycles.proofs.CyclesAreLevel.{picked_among}

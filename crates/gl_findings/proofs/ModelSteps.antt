@@ -8,7 +8,7 @@ use Rattle.gl_edges.specs.declared.edge.Edge.{Edge}
 use Rattle.gl_edges.specs.declared.edge.Sample.{Sample}
 use Rattle.gl_filters.specs.Picked.{edges_of_table}
 use Rattle.gl_index.proofs.Lists.{element_at, set_here}
-use Rattle.gl_pruning.specs.Kinds.{AreOfOneKind}
+use Rattle.gl_kinds.specs.Kinds.{AreOfOneKind}
 use Rattle.gl_findings.specs.bodies.Grounds.{AreModels, HasModel}
 
 -- an edge that is alike and of the same class is a model once it is flagged

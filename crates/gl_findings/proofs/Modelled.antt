@@ -9,7 +9,7 @@ use Rattle.gl_filters.specs.declared.query.Mode.{Mode}
 use Rattle.gl_filters.specs.Cycle.{asks_guards}
 use Rattle.gl_filters.specs.Picked.{picked}
 use Rattle.gl_filters.specs.Test.{waits_for, leads_to, lead_on, leads_back, last_of, kinds_go_together}
-use Rattle.gl_pruning.specs.Kinds.{AreOfOneKind}
+use Rattle.gl_kinds.specs.Kinds.{AreOfOneKind}
 use Rattle.gl_findings.specs.bodies.Grounds.{AreModels}
 use Rattle.gl_walks.specs.Walks.{kinds_together, is_front}
 

@@ -7,7 +7,7 @@ use Rattle.gl_edges.specs.declared.edge.Edge.{Edge}
 use Rattle.gl_edges.specs.declared.edge.Sample.{Sample}
 use Rattle.gl_filters.specs.declared.query.Mode.{Mode}
 use Rattle.gl_filters.specs.Picked.{edges_of_table}
-use Rattle.gl_pruning.specs.OffCycles.{KeepsCycles}
+use Rattle.gl_sought.specs.OffCycles.{KeepsCycles}
 use Rattle.gl_walks.specs.declared.purpose.Purpose.TheVariants.{Front}
 use Rattle.gl_walks.specs.Walks.{NoWalk}
 use Rattle.gl_findings.specs.Findings.{classes_of}

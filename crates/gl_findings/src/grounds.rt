@@ -3,7 +3,7 @@ ghost use Rattle.std.specs.Prelude.{◌≡◌, ℕ, Bool, length, IfOk};
 ghost use Rattle.gl_event.specs.declared.events.Segment.{Segment};
 ghost use Rattle.gl_filters.specs.Picked.{edges_of_table};
 ghost use Rattle.gl_filters.specs.declared.query.Mode.{Mode};
-ghost use Rattle.gl_pruning.specs.OffCycles.{KeepsCycles};
+ghost use Rattle.gl_sought.specs.OffCycles.{KeepsCycles};
 ghost use Rattle.gl_findings.specs.bodies.Told.{AreGrounds};
 
 use crate::classes::{classes_of, next_classes};

@@ -6,7 +6,7 @@
 ghost use Rattle.std.specs.Prelude.{◌≡◌, ◌<◌, ℕ, Some, true, length, slice_get, IfOk, OnOk};
 ghost use Rattle.gl_edges.specs.declared.edge.Edge.{Edge};
 ghost use Rattle.gl_filters.specs.Picked.{edges_of_table};
-ghost use Rattle.gl_pruning.specs.Kinds.{AreOfOneKind};
+ghost use Rattle.gl_kinds.specs.Kinds.{AreOfOneKind};
 ghost use Rattle.gl_findings.specs.bodies.Grounds.{AreModels, HasModel};
 
 use gl_edges::{Edge, EdgeList, GuardSets, Sample};

@@ -20,7 +20,7 @@ use gl_cycles::{Found, edges_sought, edges_sought_parallel, first_steps, search,
 use gl_edges::EdgeList;
 use gl_event::Memory;
 use gl_filters::Query;
-use gl_pruning::Sought;
+use gl_pruning::{Sought, kept_at_first, limits_by_edge, shortened};
 use gl_segments::Order;
 use std::alloc::Global;
 use std::thread::Threads;
@@ -65,7 +65,7 @@ fn grounds_at_first(
     ensures { IfOk result
         (AreGrounds (is_before order.now) query.now.mode query.now.len edges.now) }
 {
-    let kept = Sought::of(edges, order, query).kept_at_first(alloc)?;
+    let kept = kept_at_first(&Sought::of(edges, order, query), alloc)?;
     let grounds = Grounds::of(alloc, edges, kept)?;
     Ok(grounds)
 }
@@ -111,14 +111,19 @@ fn found_later(
 }
 
 // The same question, but of cycles no longer than those of these edges can be, and of two edges at least.
-fn shortened(alloc: Global, edges: &EdgeList, order: &Order, query: &Query) -> Result<Query, Memory>
+fn shorter_query(
+    alloc: Global,
+    edges: &EdgeList,
+    order: &Order,
+    query: &Query,
+) -> Result<Query, Memory>
     ensures { IfOk result
         (λ shorter. listed_findings shorter (is_before order.now) edges.now
         ≡ listed_findings query.now (is_before order.now) edges.now) }
 {
     let sought = Sought::of(edges, order, query);
-    let kept = sought.kept_at_first(alloc)?;
-    let shorter = sought.shortened(alloc, &kept)?;
+    let kept = kept_at_first(&sought, alloc)?;
+    let shorter = shortened(&sought, alloc, &kept)?;
     match Query::new(query.mode(), shorter.len.max(2) as u32, query.max()) {
         Ok(shorter) => Ok(shorter),
         Err(_) => Ok(*query),
@@ -192,7 +197,7 @@ fn longest_by_class(
         (edges_of_table edges.now) (classes_of edges.now) longest.items) }
 {
     let sought = Sought::of(edges, order, query);
-    let limits = sought.limits_by_edge(alloc, &grounds.kept)?;
+    let limits = limits_by_edge(&sought, alloc, &grounds.kept)?;
     let longest = longest_of(alloc, &grounds.classes, &limits)?;
     Ok(longest)
 }
@@ -297,13 +302,13 @@ fn found_by_parallel(
 /// each signature that begins where it is to be told from the first cycle is looked for, told from each of its
 /// places on.
 ///
-/// A search among the edges that [are kept at first](Sought::kept_at_first) comes first, with a few steps for
+/// A search among the edges that [are kept at first](kept_at_first) comes first, with a few steps for
 /// each edge. Where these don't suffice, a cycle is looked for: without one there are no findings. Else up to some ten thousand
 /// cycles are listed: where these are all, findings are told from them. Else the search begins again with more steps, where it found some
 /// share of what is asked for; and where these don't suffice either, what can be seen to be in no cycle is left out, and it begins once more.
 ///
 /// There may be as many signatures as classes to the power of the greatest length of a cycle: the query's, or
-/// [how many edges a cycle can have](Sought::shortened), where that is less. Threads that run the same code add none.
+/// [how many edges a cycle can have](shorter_query), where that is less. Threads that run the same code add none.
 ///
 /// Err where memory was refused.
 pub fn findings(
@@ -315,7 +320,7 @@ pub fn findings(
     ensures { IfOk result
         (λ found. found ≡ listed_findings query.now (is_before order.now) edges.now) }
 {
-    let shorter = shortened(alloc, edges, order, query)?;
+    let shorter = shorter_query(alloc, edges, order, query)?;
     found_by(alloc, edges, order, &shorter)
 }
 
@@ -332,6 +337,6 @@ pub fn findings_parallel(
     ensures { IfOk result
         (λ found. found ≡ listed_findings query.now (is_before order.now) edges.now) }
 {
-    let shorter = shortened(alloc, edges, order, query)?;
+    let shorter = shorter_query(alloc, edges, order, query)?;
     found_by_parallel(rt, alloc, edges, order, &shorter)
 }

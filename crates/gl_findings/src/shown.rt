@@ -5,7 +5,7 @@ ghost use Rattle.gl_segments.specs.Clocks.{is_before};
 ghost use Rattle.gl_filters.specs.Picked.{edges_of_table};
 ghost use Rattle.gl_filters.specs.declared.steps.Stop.TheVariants.{Memory};
 ghost use Rattle.gl_cycles.specs.Cycles.{cycles_in};
-ghost use Rattle.gl_pruning.specs.OffCycles.{KeepsCycles};
+ghost use Rattle.gl_sought.specs.OffCycles.{KeepsCycles};
 ghost use Rattle.gl_filters.specs.declared.lengths.TheConstants.{LONGEST};
 ghost use Rattle.gl_findings.specs.Findings.{classes_of, first_with};
 ghost use Rattle.gl_findings.specs.bodies.Lesser.{lesser};

@@ -13,19 +13,19 @@ use Rattle.gl_filters.specs.Cycle.{IsCycle}
 use Rattle.gl_filters.specs.Picked.{edges_of_table}
 use Rattle.gl_filters.proofs.Cycling.{test_from_cycle}
 use Rattle.gl_index.proofs.Lists.{element_at, push_before, push_at_end}
-use Rattle.gl_pruning.specs.bodies.Components.{AreComponents}
+use Rattle.gl_sought.specs.Components.{AreComponents}
 use Rattle.gl_pruning.specs.bodies.Covers.{AreChecked}
-use Rattle.gl_pruning.specs.bodies.Exclusions.{IsOneOf}
-use Rattle.gl_pruning.specs.bodies.Walks.{ends_in, label_at}
-use Rattle.gl_pruning.specs.declared.exclusions.Exclusion.{Exclusion}
+use Rattle.gl_exclusions.specs.Exclusions.{IsOneOf}
+use Rattle.gl_sought.specs.Walks.{ends_in, label_at}
+use Rattle.gl_exclusions.specs.declared.exclusions.Exclusion.{Exclusion}
 use Rattle.gl_pruning.specs.declared.limits.Covered.{Covered}
-use Rattle.gl_pruning.specs.declared.numbers.Ends.{Ends}
-use Rattle.gl_pruning.specs.declared.sought.Sought.{Sought}
-use Rattle.gl_pruning.specs.declared.turns.Turn.{Turn}
-use Rattle.gl_pruning.proofs.Back.{kept_at}
-use Rattle.gl_pruning.proofs.Level.{loop_is_level}
-use Rattle.gl_pruning.proofs.NotLonger.{no_more}
-use Rattle.gl_pruning.proofs.Off.{loop_from_cycle}
+use Rattle.gl_sought.specs.declared.numbers.Ends.{Ends}
+use Rattle.gl_sought.specs.declared.sought.Sought.{Sought}
+use Rattle.gl_exclusions.specs.declared.turns.Turn.{Turn}
+use Rattle.gl_sought.proofs.Back.{kept_at}
+use Rattle.gl_loops.proofs.Level.{loop_is_level}
+use Rattle.gl_exclusions.proofs.NotLonger.{no_more}
+use Rattle.gl_loops.proofs.Off.{loop_from_cycle}
 
 module _ (s : Sought) (labels : List ℕ) (ends : List Ends) (kept : List Bool) (components : AreComponents s labels ends kept) where
   -- the ends of an edge

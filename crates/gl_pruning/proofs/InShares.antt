@@ -13,13 +13,13 @@ use Rattle.gl_filters.specs.Cycle.{IsCycle}
 use Rattle.gl_filters.specs.Picked.{edges_of_table}
 use Rattle.gl_filters.specs.declared.query.Mode.{Mode}
 use Rattle.gl_index.proofs.Lists.{element_at, push_before, push_at_end}
-use Rattle.gl_pruning.specs.OffCycles.{IsOffCycles, KeepsCycles}
+use Rattle.gl_sought.specs.OffCycles.{IsOffCycles, KeepsCycles}
 use Rattle.gl_pruning.specs.bodies.Shares.{share_in, AreShares, IsInShare, HasEdgesBelow, AreOff}
-use Rattle.gl_pruning.specs.bodies.Walks.{ends_in, label_at}
+use Rattle.gl_sought.specs.Walks.{ends_in, label_at}
 use Rattle.gl_pruning.specs.declared.shares.Share.{Share}
 use Rattle.gl_pruning.specs.declared.shares.Shares.{Shares}
-use Rattle.gl_pruning.specs.declared.numbers.Ends.{Ends}
-use Rattle.gl_pruning.specs.declared.sought.Sought.{Sought}
+use Rattle.gl_sought.specs.declared.numbers.Ends.{Ends}
+use Rattle.gl_sought.specs.declared.sought.Sought.{Sought}
 use Rattle.gl_pruning.proofs.InComponents.{ends_at, kept_in, same_component}
 
 -- a cycle that is short enough for another length is one for it, too

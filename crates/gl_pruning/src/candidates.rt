@@ -2,15 +2,16 @@
 ghost use Rattle.std.specs.Prelude.{[], IfOk};
 ghost use Rattle.gl_segments.specs.Clocks.{is_before};
 ghost use Rattle.gl_filters.specs.Picked.{edges_of_table};
-ghost use Rattle.gl_pruning.specs.Alone.{LeavesOutAlone};
-ghost use Rattle.gl_pruning.specs.OffCycles.{KeepsCycles};
+ghost use Rattle.gl_loops.specs.Alone.{LeavesOutAlone};
+ghost use Rattle.gl_sought.specs.OffCycles.{KeepsCycles};
 
 use crate::parallel::kept_edges_parallel;
-use crate::sought::Sought;
+use crate::reasons::kept_edges;
 use gl_edges::EdgeList;
 use gl_event::Memory;
 use gl_filters::Query;
 use gl_segments::Order;
+use gl_sought::Sought;
 use std::alloc::Global;
 use std::thread::Threads;
 
@@ -33,7 +34,7 @@ pub fn edges_sought(
     ensures alone { IfOk result
         (λ kept. LeavesOutAlone (edges_of_table edges.now) [] kept.items) }
 {
-    Sought::of(edges, order, query).kept_edges(alloc)
+    kept_edges(&Sought::of(edges, order, query), alloc)
 }
 
 /// The same as [`edges_sought`], on several threads. Where it takes too long to see that an edge is in no

@@ -4,13 +4,10 @@
 //! first among chains of threads and locks that are held around edges, and where these are many, among the locks that edges hold and
 //! want as well. Nothing of this is proved, and nothing relies on it but for speed: components and exclusions are checked. So a number
 //! that is out of range, which none is, is passed over.
-use crate::exclusions::Exclusion;
-use crate::labels::labels_of;
 use crate::limits::Covered;
-use crate::numbers::Ends;
-use crate::sought::Sought;
-use crate::turns::Turn;
 use gl_event::Memory;
+use gl_exclusions::{Exclusion, Turn, widest_of, without};
+use gl_sought::{Ends, Sought, labels_of};
 use std::alloc::Global;
 
 // So few exclusions of chains and guards are enough: those of locks that edges hold and want are seldom fewer.
@@ -93,10 +90,10 @@ fn taken_away(
     let mut left = Vec::from_slice(alloc, places)?;
     let mut found = Vec::new(alloc);
     for _ in 1..sought.len {
-        let Some(exclusion) = sought.widest_of(turns, &left, has_locks) else {
+        let Some(exclusion) = widest_of(sought, turns, &left, has_locks) else {
             return Ok(found);
         };
-        left = sought.without(alloc, turns, &exclusion, &left)?;
+        left = without(sought, alloc, turns, &exclusion, &left)?;
         found.push(exclusion)?;
     }
     if left.is_empty() {

@@ -13,51 +13,26 @@
 //! epochs, ways, kinds and components are found is not proved; what is found is checked.
 //!
 //! [`edges_sought`] leaves out all that is seen to be in no cycle. A search for which that is too dear at
-//! first takes a [`Sought`] and leaves out edges [on its way](Sought::leave_out_in_turn), with as much
+//! first takes a [`Sought`] and leaves out edges [on its way](leave_out_in_turn), with as much
 //! effort as it likes. In which order edges are left out, and why, is said here for both, for one thread
 //! and for many.
 //!
 //! docs/GLOSSARY.md has its words beside those of the field.
 #![tactic(auto)]
 
-mod alike;
-mod alone;
 mod candidates;
-mod components;
 mod covering;
-mod cuts;
-mod dead_ends;
-mod epochs;
-mod exclusions;
-mod far;
-mod gates;
-mod grains;
-mod kinds;
-mod labels;
 mod limits;
-mod links;
-mod loops;
-mod models;
-mod no_way;
-mod numbers;
-mod owners;
 mod parallel;
-mod partners;
-mod parts;
-mod prints;
-mod ranks;
 mod reasons;
-mod rests;
-mod rounds;
 mod shares;
-mod sought;
-mod through;
-mod turns;
-mod ways;
 
-pub use alike::are_of_one_kind;
 pub use candidates::{edges_sought, edges_sought_parallel};
-pub use loops::edges_on_loops;
+pub use gl_exclusions::shortened;
+pub use gl_kinds::are_of_one_kind;
+pub use gl_loops::edges_on_loops;
+pub use gl_sought::Sought;
+pub use limits::limits_by_edge;
 pub use parallel::leave_out_in_turn_parallel;
-pub use reasons::ALL_EFFORT;
-pub use sought::Sought;
+pub use reasons::{ALL_EFFORT, kept_at_first, leave_out_in_turn};
+pub use shares::leave_out_around;

@@ -5,19 +5,19 @@
 ghost use Rattle.std.specs.Prelude.{◌≡◌, ◌<◌, [], Some, false, length, slice_get, All, IfOk, OnOk};
 ghost use Rattle.gl_segments.specs.Clocks.{is_before};
 ghost use Rattle.gl_filters.specs.Picked.{edges_of_table};
-ghost use Rattle.gl_pruning.specs.OffCycles.{KeepsCycles};
-ghost use Rattle.gl_pruning.specs.Alone.{LeavesOutAlone};
-ghost use Rattle.gl_pruning.specs.Sought.{KeepsSought, StayLeftOut, GoesOnSeeking};
+ghost use Rattle.gl_sought.specs.OffCycles.{KeepsCycles};
+ghost use Rattle.gl_loops.specs.Alone.{LeavesOutAlone};
+ghost use Rattle.gl_sought.specs.Sought.{KeepsSought, StayLeftOut, GoesOnSeeking};
 ghost use Rattle.gl_pruning.specs.bodies.Shares.{AreShares};
 
-use crate::parts::Part;
-use crate::reasons::{ALL_EFFORT, Reason, count_set, reasons};
-use crate::shares::Shares;
-use crate::sought::Sought;
+use crate::reasons::{ALL_EFFORT, Reason, kept_at_first, leave_out, leave_out_again, reasons};
+use crate::shares::{Shares, leave_out_of_share, share_at, shares_of};
 use gl_edges::{Edge, Sample};
 use gl_event::Memory;
+use gl_exclusions::shortened;
 use gl_filters::Mode;
 use gl_segments::Order;
+use gl_sought::{Part, Sought, count_set};
 use rayon::prelude::*;
 use std::alloc::Global;
 use std::thread::Threads;
@@ -32,47 +32,45 @@ const FEW: usize = 1_000;
 // leaves out another one sees the next time.
 const PASSES: usize = 3;
 
-impl Sought<'_> {
-    // Which edges stay if some of a part are left out.
-    fn kept_by_part(
-        &self,
-        alloc: Global,
-        reason: Reason,
-        part: Part,
-        kept: &[bool],
-    ) -> Result<Vec<bool>, Memory>
-        requires { KeepsSought self.now kept.now }
-        ensures { IfOk result (λ stay. KeepsSought self.now stay.items) }
-    {
-        let mut stay = Vec::from_slice(alloc, kept)?;
-        self.leave_out(alloc, reason, part, &mut stay)?;
-        Ok(stay)
-    }
+// Which edges stay if some of a part are left out.
+fn kept_by_part(
+    sought: &Sought<'_>,
+    alloc: Global,
+    reason: Reason,
+    part: Part,
+    kept: &[bool],
+) -> Result<Vec<bool>, Memory>
+    requires { KeepsSought sought.now kept.now }
+    ensures { IfOk result (λ stay. KeepsSought sought.now stay.items) }
+{
+    let mut stay = Vec::from_slice(alloc, kept)?;
+    leave_out(sought, alloc, reason, part, &mut stay)?;
+    Ok(stay)
+}
 
-    // Leaves out the edge at a position, if it isn't one that stays.
-    fn leave_out_unless(&self, stay: &[bool], kept: &mut Vec<bool>, i: usize)
-        requires there { i < length self.now.table.now }
-        requires stay { KeepsSought self.now stay.now }
-        requires kept { KeepsSought self.now kept.old.items }
-        ensures goes_on { GoesOnSeeking self.now kept.old.items kept.new.items }
-        ensures out { slice_get stay.now i ≡ Some false
-            → slice_get kept.new.items i ≡ Some false }
-    {
-        if !stay[i] {
-            kept[i] = false;
-        }
+// Leaves out the edge at a position, if it isn't one that stays.
+fn leave_out_unless(sought: &Sought<'_>, stay: &[bool], kept: &mut Vec<bool>, i: usize)
+    requires there { i < length sought.now.table.now }
+    requires stay { KeepsSought sought.now stay.now }
+    requires kept { KeepsSought sought.now kept.old.items }
+    ensures goes_on { GoesOnSeeking sought.now kept.old.items kept.new.items }
+    ensures out { slice_get stay.now i ≡ Some false
+        → slice_get kept.new.items i ≡ Some false }
+{
+    if !stay[i] {
+        kept[i] = false;
     }
+}
 
-    // Leaves out all but those that stay.
-    fn leave_out_others(&self, stay: &[bool], kept: &mut Vec<bool>)
-        requires stay { KeepsSought self.now stay.now }
-        requires kept { KeepsSought self.now kept.old.items }
-        ensures goes_on { GoesOnSeeking self.now kept.old.items kept.new.items }
-        ensures out { StayLeftOut stay.now kept.new.items }
-    {
-        for i in 0..self.table.len() {
-            self.leave_out_unless(stay, kept, i);
-        }
+// Leaves out all but those that stay.
+fn leave_out_others(sought: &Sought<'_>, stay: &[bool], kept: &mut Vec<bool>)
+    requires stay { KeepsSought sought.now stay.now }
+    requires kept { KeepsSought sought.now kept.old.items }
+    ensures goes_on { GoesOnSeeking sought.now kept.old.items kept.new.items }
+    ensures out { StayLeftOut stay.now kept.new.items }
+{
+    for i in 0..sought.table.len() {
+        leave_out_unless(sought, stay, kept, i);
     }
 }
 
@@ -94,7 +92,15 @@ fn kept_by_each(
             |number: usize| -> Result<Vec<bool>, Memory>
                 requires { KeepsSought sought.now kept.now }
                 ensures { IfOk result (λ stay. KeepsSought sought.entry.now stay.items) }
-            { sought.kept_by_part(alloc, reason, Part::one(number, PARTS).within(effort), kept) },
+            {
+                kept_by_part(
+                    sought,
+                    alloc,
+                    reason,
+                    Part::one(number, PARTS).within(effort),
+                    kept,
+                )
+            },
         )
         .with_min_len(1)
         .collect(rt, alloc)?;
@@ -114,11 +120,11 @@ fn leave_out_by_parts(
     ensures { OnOk result (GoesOnSeeking sought.now kept.old.items kept.new.items) }
 {
     if count_set(kept) <= FEW {
-        return sought.leave_out(alloc, reason, Part::whole().within(effort), kept);
+        return leave_out(sought, alloc, reason, Part::whole().within(effort), kept);
     }
     let parts = kept_by_each(rt, alloc, sought, reason, effort, kept)?;
     for i in 0..parts.len() {
-        sought.leave_out_others(&parts[i], kept);
+        leave_out_others(sought, &parts[i], kept);
     }
     Ok(())
 }
@@ -157,7 +163,7 @@ fn leave_out_parallel(
     ensures { OnOk result (GoesOnSeeking sought.now kept.old.items kept.new.items) }
 {
     match reason {
-        Reason::Through | Reason::Stuck => { sought.leave_out_again(alloc, reason, effort, kept) }
+        Reason::Through | Reason::Stuck => { leave_out_again(sought, alloc, reason, effort, kept) }
         Reason::Alike(_) => leave_out_by_parts(rt, alloc, sought, reason, effort, kept),
         Reason::NoWay => leave_out_in_passes(rt, alloc, sought, effort, kept),
     }
@@ -180,7 +186,7 @@ fn leave_out_by_reasons_parallel(
     Ok(())
 }
 
-// The same as [`Sought::kept_within`], on several threads.
+// The same as [`kept_within`](crate::reasons::kept_within), on several threads.
 fn kept_within_parallel(
     rt: &(impl Threads + Sync),
     alloc: Global,
@@ -190,8 +196,8 @@ fn kept_within_parallel(
     requires { 0 < sought.now.len }
     ensures { IfOk result (λ kept. KeepsSought sought.now kept.items) }
 {
-    let mut kept = sought.kept_at_first(alloc)?;
-    let shorter = sought.shortened(alloc, &kept)?;
+    let mut kept = kept_at_first(sought, alloc)?;
+    let shorter = shortened(sought, alloc, &kept)?;
     leave_out_by_reasons_parallel(rt, alloc, &shorter, effort, &mut kept)?;
     Ok(kept)
 }
@@ -235,7 +241,7 @@ fn leave_out_apart_parallel(
     ensures { OnOk result (GoesOnSeeking sought.now kept.old.items kept.new.items) }
 {
     for number in 0..shares.count {
-        let share = sought.share(alloc, shares, number)?;
+        let share = share_at(sought, alloc, shares, number)?;
         let stay = kept_of_share_parallel(
             rt,
             alloc,
@@ -245,12 +251,12 @@ fn leave_out_apart_parallel(
             sought.len,
             effort,
         )?;
-        sought.leave_out_of_share(&share, &stay, kept);
+        leave_out_of_share(sought, &share, &stay, kept);
     }
     Ok(())
 }
 
-/// The same as [`Sought::leave_out_in_turn`], on several threads. Ways back are looked for up to three times,
+/// The same as [`leave_out_in_turn`](crate::leave_out_in_turn), on several threads. Ways back are looked for up to three times,
 /// each time with so much effort, and as long as some edge has none; the other reasons are gone through once.
 ///
 /// Err where memory was refused.
@@ -267,13 +273,13 @@ pub fn leave_out_in_turn_parallel(
     if sought.len == 0 {
         return leave_out_by_reasons_parallel(rt, alloc, sought, effort, kept);
     }
-    match sought.shares(alloc, kept)? {
+    match shares_of(sought, alloc, kept)? {
         Some(shares) => leave_out_apart_parallel(rt, alloc, sought, &shares, effort, kept),
         None => leave_out_by_reasons_parallel(rt, alloc, sought, effort, kept),
     }
 }
 
-/// The same as [`Sought::kept_edges`], on several threads.
+/// The same as [`kept_edges`](crate::reasons::kept_edges), on several threads.
 pub(crate) fn kept_edges_parallel(
     rt: &(impl Threads + Sync),
     alloc: Global,
@@ -283,7 +289,7 @@ pub(crate) fn kept_edges_parallel(
     ensures alone { IfOk result
         (λ kept. LeavesOutAlone (edges_of_table sought.now.table.now) [] kept.items) }
 {
-    let mut kept = sought.kept_at_first(alloc)?;
+    let mut kept = kept_at_first(sought, alloc)?;
     leave_out_in_turn_parallel(rt, alloc, sought, ALL_EFFORT, &mut kept)?;
     Ok(kept)
 }

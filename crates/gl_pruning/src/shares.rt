@@ -4,22 +4,20 @@
 //! were no others: the epochs of the run and how long a cycle can be are then those of a part of the program that
 //! knows nothing of the others. The greatest components are looked at one by one, and all others together.
 //!
-//! Which components these are is not proved; it is [checked](crate::labels).
+//! Which components these are is not proved; it is [checked](none_goes_back).
 ghost use Rattle.std.specs.Prelude.{◌≡◌, ◌+◌, ◌<◌, ◌≤◌, length, IfOk, IfSome, OnOk};
 ghost use Rattle.gl_filters.specs.Picked.{edges_of_table};
-ghost use Rattle.gl_pruning.specs.OffCycles.{KeepsCycles};
-ghost use Rattle.gl_pruning.specs.Sought.{KeepsSought, GoesOnSeeking};
+ghost use Rattle.gl_sought.specs.OffCycles.{KeepsCycles};
+ghost use Rattle.gl_sought.specs.Sought.{KeepsSought, GoesOnSeeking};
 ghost use Rattle.gl_segments.specs.Clocks.{is_before};
 ghost use Rattle.gl_pruning.specs.bodies.Shares.{share_in, AreShares, HasEdgesBelow, AreOff};
 
-use crate::labels::{labels_of, none_goes_back};
-use crate::no_way::label;
-use crate::numbers::{Ends, Numbers};
-use crate::sought::Sought;
+use crate::reasons::{kept_within, leave_out_by_reasons};
 use gl_edges::{Edge, Sample};
 use gl_event::Memory;
 use gl_filters::Mode;
 use gl_segments::Order;
+use gl_sought::{Ends, Numbers, Sought, label, labels_of, none_goes_back};
 use std::alloc::Global;
 
 // How many shares there are at most: one for each of the greatest components, and the last one for all others.
@@ -64,156 +62,183 @@ impl Shares {
     }
 }
 
-impl Sought<'_> {
-    /// Shares of the edges that are kept, if they lie in more than one component.
-    ///
-    /// It takes four look-ups for each edge and two walks through the graph. Err where memory was refused.
-    pub(crate) fn shares(&self, alloc: Global, kept: &[bool]) -> Result<Option<Shares>, Memory>
-        requires { KeepsSought self.now kept.now }
-        ensures { IfOk result (λ found. IfSome found (λ shares. AreShares self.now shares)) }
-    {
-        let numbers = Numbers::of(alloc, self.table)?;
-        let ends = numbers.of_edges(alloc, self.table)?;
-        let labels = labels_of(alloc, &ends, numbers.count(), kept)?;
-        if !none_goes_back(&labels, &ends, kept) {
-            return Ok(None);
-        }
-        let sizes = sizes_of(alloc, &labels, &ends, kept)?;
-        let count = count_some(&sizes).min(MOST);
-        if count < 2 {
-            return Ok(None);
-        }
-        let by_component = dealt_out(alloc, &sizes)?;
-        let kept = Vec::from_slice(alloc, kept)?;
-        Ok(Some(Shares {
-            ends,
-            kept,
-            labels,
-            by_component,
-            count,
-        }))
+/// Shares of the edges that are kept, if they lie in more than one component.
+///
+/// It takes four look-ups for each edge and two walks through the graph. Err where memory was refused.
+pub(crate) fn shares_of(
+    sought: &Sought<'_>,
+    alloc: Global,
+    kept: &[bool],
+) -> Result<Option<Shares>, Memory>
+    requires { KeepsSought sought.now kept.now }
+    ensures { IfOk result (λ found. IfSome found (λ shares. AreShares sought.now shares)) }
+{
+    let numbers = Numbers::of(alloc, sought.table)?;
+    let ends = numbers.of_edges(alloc, sought.table)?;
+    let labels = labels_of(alloc, &ends, numbers.count(), kept)?;
+    if !none_goes_back(&labels, &ends, kept) {
+        return Ok(None);
     }
+    let sizes = sizes_of(alloc, &labels, &ends, kept)?;
+    let count = count_some(&sizes).min(MOST);
+    if count < 2 {
+        return Ok(None);
+    }
+    let by_component = dealt_out(alloc, &sizes)?;
+    let kept = Vec::from_slice(alloc, kept)?;
+    Ok(Some(Shares {
+        ends,
+        kept,
+        labels,
+        by_component,
+        count,
+    }))
+}
 
-    // Adds the edge at a position to a share, if it is kept and lies in it.
-    fn add_to_share(
-        &self,
-        alloc: Global,
-        shares: &Shares,
-        number: usize,
-        position: usize,
-        share: &mut Share,
-    ) -> Result<(), Memory>
-        requires shares { AreShares self.now shares.now }
-        requires there { position < length self.now.table.now }
-        requires edges { HasEdgesBelow (edges_of_table self.now.table.now) shares.now number
-            position share.old }
-        ensures { OnOk result
-            (HasEdgesBelow (edges_of_table self.now.table.now) shares.now number
-            (position + 1) share.new) }
-    {
-        if !shares.kept[position] || shares.share(shares.ends[position].held) != number {
-            return Ok(());
-        }
-        let (edge, sample) = &self.table[position];
-        let edge = edge.copy(alloc)?;
-        share.table.push((edge, *sample))?;
-        share.positions.push(position)?;
-        Ok(())
+// Adds the edge at a position to a share, if it is kept and lies in it.
+fn add_to_share(
+    sought: &Sought<'_>,
+    alloc: Global,
+    shares: &Shares,
+    number: usize,
+    position: usize,
+    share: &mut Share,
+) -> Result<(), Memory>
+    requires shares { AreShares sought.now shares.now }
+    requires there { position < length sought.now.table.now }
+    requires edges { HasEdgesBelow (edges_of_table sought.now.table.now) shares.now number
+        position share.old }
+    ensures { OnOk result
+        (HasEdgesBelow (edges_of_table sought.now.table.now) shares.now number
+        (position + 1) share.new) }
+{
+    if !shares.kept[position] || shares.share(shares.ends[position].held) != number {
+        return Ok(());
     }
+    let (edge, sample) = &sought.table[position];
+    let edge = edge.copy(alloc)?;
+    share.table.push((edge, *sample))?;
+    share.positions.push(position)?;
+    Ok(())
+}
 
-    /// The share with a number. Takes a look at each edge, and copies its own.
-    pub(crate) fn share(
-        &self,
-        alloc: Global,
-        shares: &Shares,
-        number: usize,
-    ) -> Result<Share, Memory>
-        requires { AreShares self.now shares.now }
-        ensures { IfOk result
-            (λ share. HasEdgesBelow (edges_of_table self.now.table.now) shares.now number
-            (length self.now.table.now) share) }
-    {
-        let mut share = Share {
-            table: Vec::new(alloc),
-            positions: Vec::new(alloc),
-        };
-        for position in 0..self.table.len() {
-            self.add_to_share(alloc, shares, number, position, &mut share)?;
-        }
-        Ok(share)
+/// The share with a number. Takes a look at each edge, and copies its own.
+pub(crate) fn share_at(
+    sought: &Sought<'_>,
+    alloc: Global,
+    shares: &Shares,
+    number: usize,
+) -> Result<Share, Memory>
+    requires { AreShares sought.now shares.now }
+    ensures { IfOk result
+        (λ share. HasEdgesBelow (edges_of_table sought.now.table.now) shares.now number
+        (length sought.now.table.now) share) }
+{
+    let mut share = Share {
+        table: Vec::new(alloc),
+        positions: Vec::new(alloc),
+    };
+    for position in 0..sought.table.len() {
+        add_to_share(sought, alloc, shares, number, position, &mut share)?;
     }
+    Ok(share)
+}
 
-    // Leaves out the edge at a place of a share, if it isn't one that stays.
-    fn leave_out_at_place(&self, share: &Share, stay: &[bool], kept: &mut Vec<bool>, place: usize)
-        requires there { place < length share.now.positions.items }
-        requires off { AreOff self.now share.now stay.now }
-        requires kept { KeepsSought self.now kept.old.items }
-        ensures { GoesOnSeeking self.now kept.old.items kept.new.items }
-    {
-        if !stay[place] {
-            kept[share.positions[place]] = false;
-        }
+// Leaves out the edge at a place of a share, if it isn't one that stays.
+fn leave_out_at_place(
+    sought: &Sought<'_>,
+    share: &Share,
+    stay: &[bool],
+    kept: &mut Vec<bool>,
+    place: usize,
+)
+    requires there { place < length share.now.positions.items }
+    requires off { AreOff sought.now share.now stay.now }
+    requires kept { KeepsSought sought.now kept.old.items }
+    ensures { GoesOnSeeking sought.now kept.old.items kept.new.items }
+{
+    if !stay[place] {
+        kept[share.positions[place]] = false;
     }
+}
 
-    /// Leaves out the edges of a share, but for those that stay.
-    pub(crate) fn leave_out_of_share(&self, share: &Share, stay: &[bool], kept: &mut Vec<bool>)
-        requires off { AreOff self.now share.now stay.now }
-        requires kept { KeepsSought self.now kept.old.items }
-        ensures { GoesOnSeeking self.now kept.old.items kept.new.items }
-    {
-        for place in 0..share.positions.len() {
-            self.leave_out_at_place(share, stay, kept, place);
-        }
+/// Leaves out the edges of a share, but for those that stay.
+pub(crate) fn leave_out_of_share(
+    sought: &Sought<'_>,
+    share: &Share,
+    stay: &[bool],
+    kept: &mut Vec<bool>,
+)
+    requires off { AreOff sought.now share.now stay.now }
+    requires kept { KeepsSought sought.now kept.old.items }
+    ensures { GoesOnSeeking sought.now kept.old.items kept.new.items }
+{
+    for place in 0..share.positions.len() {
+        leave_out_at_place(sought, share, stay, kept, place);
     }
+}
 
-    /// Leaves out edges for all reasons, in each share by itself, with so much effort for each reason.
-    pub(crate) fn leave_out_apart(
-        &self,
-        alloc: Global,
-        shares: &Shares,
-        effort: usize,
-        kept: &mut Vec<bool>,
-    ) -> Result<(), Memory>
-        requires some { 0 < self.now.len }
-        requires shares { AreShares self.now shares.now }
-        requires kept { KeepsSought self.now kept.old.items }
-        ensures { OnOk result (GoesOnSeeking self.now kept.old.items kept.new.items) }
-    {
-        for number in 0..shares.count {
-            let share = self.share(alloc, shares, number)?;
-            let stay = kept_of_share(alloc, &share.table, self.order, self.mode, self.len, effort)?;
-            self.leave_out_of_share(&share, &stay, kept);
-        }
-        Ok(())
+/// Leaves out edges for all reasons, in each share by itself, with so much effort for each reason.
+pub(crate) fn leave_out_apart(
+    sought: &Sought<'_>,
+    alloc: Global,
+    shares: &Shares,
+    effort: usize,
+    kept: &mut Vec<bool>,
+) -> Result<(), Memory>
+    requires some { 0 < sought.now.len }
+    requires shares { AreShares sought.now shares.now }
+    requires kept { KeepsSought sought.now kept.old.items }
+    ensures { OnOk result (GoesOnSeeking sought.now kept.old.items kept.new.items) }
+{
+    for number in 0..shares.count {
+        let share = share_at(sought, alloc, shares, number)?;
+        let stay = kept_of_share(
+            alloc,
+            &share.table,
+            sought.order,
+            sought.mode,
+            sought.len,
+            effort,
+        )?;
+        leave_out_of_share(sought, &share, &stay, kept);
     }
+    Ok(())
+}
 
-    /// Leaves out edges for all reasons, with so much effort for each, among those alone that share a component of the lock-order
-    /// graph with the edge at a position; among all where there is one component. The greatest components are told apart, and all
-    /// others count as one. For each edge of these one time more is noted, so that it is known how often each was looked at.
-    ///
-    /// Err where memory was refused.
-    pub fn leave_out_around(
-        &self,
-        alloc: Global,
-        effort: usize,
-        position: usize,
-        times: &mut Vec<usize>,
-        kept: &mut Vec<bool>,
-    ) -> Result<(), Memory>
-        requires some { 0 < self.now.len }
-        requires kept { KeepsSought self.now kept.old.items }
-        ensures { OnOk result (GoesOnSeeking self.now kept.old.items kept.new.items) }
-    {
-        let Some(shares) = self.shares(alloc, kept)? else {
-            note_all(times);
-            return self.leave_out_by_reasons(alloc, effort, kept);
-        };
-        let share = self.share(alloc, &shares, shares.share_of(position))?;
-        note_each(times, &share.positions);
-        let stay = kept_of_share(alloc, &share.table, self.order, self.mode, self.len, effort)?;
-        self.leave_out_of_share(&share, &stay, kept);
-        Ok(())
-    }
+/// Leaves out edges for all reasons, with so much effort for each, among those alone that share a component of the lock-order
+/// graph with the edge at a position; among all where there is one component. The greatest components are told apart, and all
+/// others count as one. For each edge of these one time more is noted, so that it is known how often each was looked at.
+///
+/// Err where memory was refused.
+pub fn leave_out_around(
+    sought: &Sought<'_>,
+    alloc: Global,
+    effort: usize,
+    position: usize,
+    times: &mut Vec<usize>,
+    kept: &mut Vec<bool>,
+) -> Result<(), Memory>
+    requires some { 0 < sought.now.len }
+    requires kept { KeepsSought sought.now kept.old.items }
+    ensures { OnOk result (GoesOnSeeking sought.now kept.old.items kept.new.items) }
+{
+    let Some(shares) = shares_of(sought, alloc, kept)? else {
+        note_all(times);
+        return leave_out_by_reasons(sought, alloc, effort, kept);
+    };
+    let share = share_at(sought, alloc, &shares, shares.share_of(position))?;
+    note_each(times, &share.positions);
+    let stay = kept_of_share(
+        alloc,
+        &share.table,
+        sought.order,
+        sought.mode,
+        sought.len,
+        effort,
+    )?;
+    leave_out_of_share(sought, &share, &stay, kept);
+    Ok(())
 }
 
 // Notes one time more for each edge.
@@ -252,7 +277,7 @@ fn kept_of_share(
         mode,
         len,
     };
-    sought.kept_within(alloc, effort)
+    kept_within(&sought, alloc, effort)
 }
 
 // How many edges that are kept lie in each component.

@@ -7,8 +7,8 @@ use Rattle.gl_filters.specs.declared.steps.Stop.TheVariants.{Memory}
 use Rattle.gl_cycles.specs.bodies.Blocks.{block, blocks_below}
 use Rattle.gl_index.specs.Indexes.{IsIndexOf}
 use Rattle.gl_pruning.specs.Limits.{IsLimit, AreLimits}
-use Rattle.gl_pruning.specs.OffCycles.{KeepsCycles}
-use Rattle.gl_pruning.specs.declared.sought.Sought.{Sought}
+use Rattle.gl_sought.specs.OffCycles.{KeepsCycles}
+use Rattle.gl_sought.specs.declared.sought.Sought.{Sought}
 use Rattle.gl_cycles.specs.declared.paths.Searcher.{Searcher}
 use Rattle.gl_filters.specs.declared.lengths.TheConstants.{LONGEST}
 

@@ -4,7 +4,7 @@ use Rattle.gl_segments.specs.Clocks.{is_before}
 use Rattle.gl_filters.specs.Picked.{edges_of_table}
 use Rattle.gl_index.specs.Indexes.{AreChainedKept, AreClosers}
 use Rattle.gl_index.specs.declared.sides.Side.TheVariants.{Leader}
-use Rattle.gl_pruning.specs.OffCycles.{KeepsCycles}
+use Rattle.gl_sought.specs.OffCycles.{KeepsCycles}
 use Rattle.gl_filters.specs.declared.lengths.TheConstants.{LONGEST}
 use Rattle.gl_walks.specs.declared.walker.Walker.{Walker}
 use Rattle.gl_findings.specs.Findings.{classes_of}

@@ -1,7 +1,7 @@
 -- What a search of signatures relies on.
 use Rattle.std.specs.Prelude.{◌≡◌, ℕ, ◌+◌, ◌<◌, ◌≤◌, Bool, true, List, length, slice_get, Some}
 use Rattle.gl_edges.specs.declared.edge.Edge.{Edge}
-use Rattle.gl_pruning.specs.Kinds.{AreOfOneKind}
+use Rattle.gl_kinds.specs.Kinds.{AreOfOneKind}
 
 -- a flagged edge is a model of the one at position i: of one kind with it, and of the same class
 pub record HasModel (edges : List Edge) (classes : List ℕ) (flags : List Bool)

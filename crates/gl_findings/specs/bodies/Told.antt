@@ -7,7 +7,7 @@ use Rattle.gl_filters.specs.declared.query.Mode.{Mode}
 use Rattle.gl_filters.specs.Picked.{edges_of_table}
 use Rattle.gl_index.specs.Indexes.{AreChainedKept, AreClosers}
 use Rattle.gl_index.specs.declared.sides.Side.TheVariants.{Leader}
-use Rattle.gl_pruning.specs.OffCycles.{KeepsCycles}
+use Rattle.gl_sought.specs.OffCycles.{KeepsCycles}
 use Rattle.gl_findings.specs.Findings.{classes_of}
 use Rattle.gl_findings.specs.bodies.Grounds.{AreModels, IsNextClass}
 use Rattle.gl_findings.specs.bodies.Running.{AreRunners}

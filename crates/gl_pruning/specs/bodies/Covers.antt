@@ -4,15 +4,15 @@ use Rattle.std.specs.Global.{Vec}
 use Rattle.gl_edges.specs.declared.edge.Edge.{Edge}
 use Rattle.gl_filters.specs.Picked.{edges_of_table}
 use Rattle.gl_filters.specs.declared.query.Mode.{Mode}
-use Rattle.gl_pruning.specs.declared.exclusions.Exclusion.{Exclusion}
+use Rattle.gl_exclusions.specs.declared.exclusions.Exclusion.{Exclusion}
 use Rattle.gl_pruning.specs.declared.limits.Covered.{Covered}
-use Rattle.gl_pruning.specs.declared.numbers.Ends.{Ends}
-use Rattle.gl_pruning.specs.declared.sought.Sought.{Sought}
-use Rattle.gl_pruning.specs.declared.turns.Turn.{Turn}
-use Rattle.gl_pruning.specs.bodies.Components.{AreComponents}
-use Rattle.gl_pruning.specs.bodies.Exclusions.{IsOneOf}
-use Rattle.gl_pruning.specs.bodies.Turns.{TakeTurns}
-use Rattle.gl_pruning.specs.bodies.Walks.{label_at}
+use Rattle.gl_sought.specs.declared.numbers.Ends.{Ends}
+use Rattle.gl_sought.specs.declared.sought.Sought.{Sought}
+use Rattle.gl_exclusions.specs.declared.turns.Turn.{Turn}
+use Rattle.gl_sought.specs.Components.{AreComponents}
+use Rattle.gl_exclusions.specs.Exclusions.{IsOneOf}
+use Rattle.gl_exclusions.specs.Turns.{TakeTurns}
+use Rattle.gl_sought.specs.Walks.{label_at}
 
 -- the component of a lock, by numbers
 abbrev pub component_in : Covered → ℕ → ℕ

@@ -3,13 +3,13 @@ use Rattle.std.specs.Prelude.{◌≡◌, ℕ, ◌<◌, Bool, true, false, List, 
 use Rattle.gl_edges.specs.declared.edge.Edge.{Edge}
 use Rattle.gl_filters.specs.Picked.{edges_of_table}
 use Rattle.gl_segments.specs.Clocks.{is_before}
-use Rattle.gl_pruning.specs.OffCycles.{IsOffCycles}
+use Rattle.gl_sought.specs.OffCycles.{IsOffCycles}
 use Rattle.gl_pruning.specs.declared.shares.Share.{Share}
 use Rattle.gl_pruning.specs.declared.shares.Shares.{Shares}
-use Rattle.gl_pruning.specs.declared.numbers.Ends.{Ends}
-use Rattle.gl_pruning.specs.declared.sought.Sought.{Sought}
-use Rattle.gl_pruning.specs.bodies.Components.{AreComponents}
-use Rattle.gl_pruning.specs.bodies.Walks.{label_at}
+use Rattle.gl_sought.specs.declared.numbers.Ends.{Ends}
+use Rattle.gl_sought.specs.declared.sought.Sought.{Sought}
+use Rattle.gl_sought.specs.Components.{AreComponents}
+use Rattle.gl_sought.specs.Walks.{label_at}
 
 -- the number of the share in which a lock lies, by that of its component
 abbrev pub share_in : Shares → ℕ → ℕ

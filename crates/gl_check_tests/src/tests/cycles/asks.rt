@@ -2,7 +2,7 @@
 use gl_cycles::{Found, Trimmed};
 use gl_filters::{Mode, Query};
 use gl_findings::ClassCounts;
-use gl_pruning::Sought;
+use gl_pruning::{Sought, kept_at_first, leave_out_in_turn, limits_by_edge, shortened};
 use gl_worked::cycles::are_cycles;
 use gl_worked::known::Known;
 use std::alloc::Global;
@@ -162,7 +162,7 @@ fn is_by_parts<R: Threads + Sync>(
 fn count_at_first(alloc: Global, known: &Known, mode: Mode) -> Option<usize> {
     let query = query_for((mode, 4, 1))?;
     let sought = Sought::of(&known.edges, &known.order, &query);
-    let kept = sought.kept_at_first(alloc).ok()?;
+    let kept = kept_at_first(&sought, alloc).ok()?;
     Some(count_set(&kept))
 }
 
@@ -170,8 +170,8 @@ fn count_at_first(alloc: Global, known: &Known, mode: Mode) -> Option<usize> {
 fn count_effortless(alloc: Global, known: &Known, mode: Mode) -> Option<usize> {
     let query = query_for((mode, 4, 1))?;
     let sought = Sought::of(&known.edges, &known.order, &query);
-    let mut kept = sought.kept_at_first(alloc).ok()?;
-    sought.leave_out_in_turn(alloc, 0, &mut kept).ok()?;
+    let mut kept = kept_at_first(&sought, alloc).ok()?;
+    leave_out_in_turn(&sought, alloc, 0, &mut kept).ok()?;
     Some(count_set(&kept))
 }
 
@@ -179,8 +179,8 @@ fn count_effortless(alloc: Global, known: &Known, mode: Mode) -> Option<usize> {
 fn longest(alloc: Global, known: &Known, asked: (Mode, u32)) -> Option<usize> {
     let query = query_for((asked.0, asked.1, 1))?;
     let sought = Sought::of(&known.edges, &known.order, &query);
-    let kept = sought.kept_at_first(alloc).ok()?;
-    let shorter = sought.shortened(alloc, &kept).ok()?;
+    let kept = kept_at_first(&sought, alloc).ok()?;
+    let shorter = shortened(&sought, alloc, &kept).ok()?;
     Some(shorter.len)
 }
 
@@ -188,8 +188,8 @@ fn longest(alloc: Global, known: &Known, asked: (Mode, u32)) -> Option<usize> {
 fn limits(alloc: Global, known: &Known, asked: (Mode, u32)) -> Option<Vec<usize>> {
     let query = query_for((asked.0, asked.1, 1))?;
     let sought = Sought::of(&known.edges, &known.order, &query);
-    let kept = sought.kept_at_first(alloc).ok()?;
-    sought.limits_by_edge(alloc, &kept).ok()
+    let kept = kept_at_first(&sought, alloc).ok()?;
+    limits_by_edge(&sought, alloc, &kept).ok()
 }
 
 // Whether these are so many.

@@ -2,7 +2,7 @@ use Rattle.std.proofs.Common.{ℕ, ◌<◌, map, take, ap, ◌∙◌, arith}
 use Rattle.rayon.specs.Numbers.{nat_range}
 use Rattle.rayon.proofs.ToStd.{nat_range-All}
 use Rattle.gl_cycles.proofs.RootsJoined.{pieces_are}
-use Rattle.gl_pruning.proofs.Answered.{if_ok}
+use Rattle.gl_sought.proofs.Answered.{if_ok}
 use Rattle.gl_cycles.proofs.roots.found_from_each.Goals as goal
 
 -- each number is that of a root

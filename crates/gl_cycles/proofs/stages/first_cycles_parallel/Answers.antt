@@ -1,5 +1,5 @@
 use Rattle.std.specs.Prelude.{⊤}
-use Rattle.gl_pruning.proofs.Answered.{if_ok}
+use Rattle.gl_sought.proofs.Answered.{if_ok}
 use Rattle.gl_cycles.specs.Cycles.{cycles_in}
 use Rattle.gl_cycles.proofs.NoLonger.{AreFirst, first_of_shorter}
 use Rattle.gl_cycles.proofs.stages.first_cycles_parallel.Goals as goal

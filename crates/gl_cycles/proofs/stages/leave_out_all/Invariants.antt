@@ -1,6 +1,6 @@
 use Rattle.gl_segments.specs.Clocks.{is_before}
 use Rattle.gl_filters.specs.Picked.{edges_of_table}
-use Rattle.gl_pruning.specs.OffCycles.{KeepsCycles}
+use Rattle.gl_sought.specs.OffCycles.{KeepsCycles}
 use Rattle.gl_cycles.proofs.stages.leave_out_all.Given as goal
 
 -- only edges that are in no cycle are left out

@@ -1,7 +1,7 @@
 use Rattle.std.proofs.Common.{map}
 use Rattle.gl_segments.specs.Clocks.{is_before}
 use Rattle.gl_filters.specs.Picked.{edges_of_table}
-use Rattle.gl_pruning.specs.OffCycles.{KeepsCycles}
+use Rattle.gl_sought.specs.OffCycles.{KeepsCycles}
 use Rattle.gl_cycles.specs.bodies.Searching.{HasFound}
 use Rattle.gl_cycles.proofs.stages.search_in_rounds.Given as goal
 

@@ -2,7 +2,7 @@ use Rattle.std.proofs.Common.{false, sym, ap, ◌∙◌, Some, arith}
 use Rattle.std.proofs.lemmas.Bool.{eqb-true}
 use Rattle.std.proofs.lemmas.Option.{slice_get-get_or}
 use Rattle.gl_edges.proofs.Orders.{modes_same}
-use Rattle.gl_pruning.proofs.ByKinds.{edge_is, from_not}
+use Rattle.gl_sought.proofs.Places.{edge_is, from_not}
 use Rattle.gl_findings.proofs.PassageSteps.{leads_same_way}
 use Rattle.gl_findings.proofs.passages.leads_likewise.Goals as goal
 

@@ -4,7 +4,7 @@ use Rattle.std.proofs.lemmas.Bool.{true≢false}
 use Rattle.std.proofs.lemmas.Option.{get_or_from_slice_get}
 use Rattle.gl_edges.specs.declared.edge.Edge.{Edge}
 use Rattle.gl_filters.specs.Picked.{edges_of_table}
-use Rattle.gl_pruning.proofs.ByKinds.{edge_is}
+use Rattle.gl_sought.proofs.Places.{edge_is}
 use Rattle.gl_findings.specs.bodies.Running.{IsRunBy}
 use Rattle.gl_findings.proofs.RunnerSteps.{runners_more, runners_of_all}
 use Rattle.std.proofs.lemmas.Result.{err_from_is_err_and}

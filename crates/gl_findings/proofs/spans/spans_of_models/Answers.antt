@@ -5,7 +5,7 @@ use Rattle.std.specs.Prelude.{Contains}
 use Rattle.gl_edges.specs.declared.edge.Edge.{Edge}
 use Rattle.gl_filters.specs.Picked.{edges_of_table}
 use Rattle.gl_index.proofs.Lists.{element_at}
-use Rattle.gl_pruning.proofs.ByKinds.{edge_is}
+use Rattle.gl_sought.proofs.Places.{edge_is}
 use Rattle.gl_findings.specs.bodies.Spanning.{span_of}
 use Rattle.gl_findings.proofs.SpanSteps.{models_more}
 use Rattle.gl_findings.proofs.spans.spans_of_models.Goals as goal

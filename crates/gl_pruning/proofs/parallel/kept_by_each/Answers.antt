@@ -1,7 +1,7 @@
 use Rattle.gl_segments.specs.Clocks.{is_before}
 use Rattle.gl_filters.specs.Picked.{edges_of_table}
-use Rattle.gl_pruning.specs.OffCycles.{KeepsCycles}
-use Rattle.gl_pruning.proofs.Answered.{if_ok, all_pieces}
+use Rattle.gl_sought.specs.OffCycles.{KeepsCycles}
+use Rattle.gl_sought.proofs.Answered.{if_ok, all_pieces}
 use Rattle.gl_pruning.proofs.parallel.kept_by_each.Goals as goal
 
 -- each part leaves out only edges that are in no cycle

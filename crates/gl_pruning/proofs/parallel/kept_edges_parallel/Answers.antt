@@ -1,6 +1,6 @@
 use Rattle.std.proofs.Common.{[]}
 use Rattle.gl_filters.specs.Picked.{edges_of_table}
-use Rattle.gl_pruning.proofs.Lone.{stays_left_out}
+use Rattle.gl_loops.proofs.Lone.{stays_left_out}
 use Rattle.gl_pruning.proofs.parallel.kept_edges_parallel.Goals as goal
 
 -- what was left out at first stays so

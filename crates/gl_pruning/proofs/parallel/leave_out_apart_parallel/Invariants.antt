@@ -1,4 +1,4 @@
-use Rattle.gl_pruning.specs.Sought.{GoesOnSeeking}
+use Rattle.gl_sought.specs.Sought.{GoesOnSeeking}
 use Rattle.gl_pruning.proofs.parallel.leave_out_apart_parallel.Given as goal
 
 -- so far only edges that are in no cycle were left out, and none came back

@@ -8,7 +8,7 @@ use Rattle.gl_index.specs.Listed.{IsNextWith}
 use Rattle.gl_index.specs.Sides.{lock_towards}
 use Rattle.gl_index.specs.declared.sides.Side.TheVariants.{Leader}
 use Rattle.gl_index.proofs.Lists.{element_at, fewer_left}
-use Rattle.gl_pruning.proofs.ByKinds.{edge_is}
+use Rattle.gl_sought.proofs.Places.{edge_is}
 use Rattle.gl_findings.specs.bodies.Passing.{may_pass, stay, IsNextLed}
 use Rattle.gl_findings.proofs.PassageSteps.{begins, goes_past}
 use Rattle.gl_findings.proofs.passages.Passages.add_from.Goals as goal

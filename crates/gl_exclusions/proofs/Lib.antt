@@ -1,0 +1,3 @@
+pub mod Gated
+pub mod NotLonger
+pub mod Partnered

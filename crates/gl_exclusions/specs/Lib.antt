@@ -1,0 +1,3 @@
+pub mod Exclusions
+pub mod Turns
+pub mod bodies

@@ -1,0 +1,3 @@
+pub mod ByKinds
+pub mod Closing
+pub mod OfOneKind

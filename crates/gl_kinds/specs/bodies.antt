@@ -1,0 +1,3 @@
+-- The words of loops and private functions. No public contract cites them.
+pub mod Gaps
+pub mod Kinds

@@ -1,0 +1,5 @@
+pub mod Answered
+pub mod Apart
+pub mod Back
+pub mod Fewer
+pub mod Places
