@@ -1,11 +1,10 @@
-//! What words ask for, how commands end over whole traces, and what they write; sessions over lists and texts.
+//! What words ask for, how commands end over whole traces, and what they write.
 mod asks;
 mod checks;
 mod counts;
 mod cuts;
 mod faults;
 mod gates;
-mod live;
 mod runs;
 mod sessions;
 mod streams;

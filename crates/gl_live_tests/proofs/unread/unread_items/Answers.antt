@@ -1,6 +1,6 @@
 use Rattle.std.proofs.Common.{ap}
 use Rattle.gl_event.specs.Bounds.{Bounds}
-use Rattle.gl_commands_tests.proofs.unread.unread_items.Goals as goal
+use Rattle.gl_live_tests.proofs.unread.unread_items.Goals as goal
 
 -- nothing was asked for yet
 pub returns-clause-unread : goal.returns-clause-unread
