@@ -21,16 +21,30 @@ struct real_functions real = {
 #undef REAL_STAND_IN
 };
 
+static int are_of_one_library(const void *one, const void *other)
+{
+    Dl_info place, other_place;
+    return dladdr(one, &place) && dladdr(other, &other_place) && place.dli_fbase == other_place.dli_fbase;
+}
+
 /* The function that knows the sizes of blocks, if it is of the same library as this one that frees them. */
 static size_t (*usable_size_of(void *frees))(void *)
 {
-    Dl_info free_place, size_place;
     void *function = dlsym(RTLD_NEXT, "malloc_usable_size");
-    if (!function || !dladdr(frees, &free_place) || !dladdr(function, &size_place) ||
-        free_place.dli_fbase != size_place.dli_fbase)
-        return NULL;
-    return (size_t(*)(void *))function;
+    return function && are_of_one_library(frees, function) ? (size_t(*)(void *))function : NULL;
 }
+
+#ifdef __x86_64__
+
+/* The C library has two versions of these; dlsym may give the old one, which has another condition type. A library that
+ * stands before it, as a sanitizer's, has one that dlvsym passes over: that one is called. */
+static void *wait_of(void *function, const char *name)
+{
+    void *newer = dlvsym(RTLD_NEXT, name, "GLIBC_2.3.2");
+    return newer && (!function || are_of_one_library(function, newer)) ? newer : function;
+}
+
+#endif
 
 int real_find(void)
 {
@@ -47,9 +61,8 @@ int real_find(void)
     REAL_FUNCTIONS(REAL_FIND)
 #undef REAL_FIND
 #ifdef __x86_64__
-    /* There are two versions of these; dlsym may give the old one, which has another condition type. */
-    void *wait = dlvsym(RTLD_NEXT, "pthread_cond_wait", "GLIBC_2.3.2");
-    void *timed_wait = dlvsym(RTLD_NEXT, "pthread_cond_timedwait", "GLIBC_2.3.2");
+    void *wait = wait_of(dlsym(RTLD_NEXT, "pthread_cond_wait"), "pthread_cond_wait");
+    void *timed_wait = wait_of(dlsym(RTLD_NEXT, "pthread_cond_timedwait"), "pthread_cond_timedwait");
     if (wait)
         all.pthread_cond_wait = (int (*)(pthread_cond_t *, pthread_mutex_t *))wait;
     if (timed_wait)

@@ -37,6 +37,7 @@ def programs(tmp_path_factory):
         build("gcc", C_FLAGS + flags + ["-o", "plugin-%s.so" % name, source("plugin.c")], folder)
         build("gcc", C_FLAGS + flags + ["-o", "locker-%s.so" % name, source("locker.c")], folder)
     build("gcc", C_FLAGS + ["-shared", "-fPIC", "-o", "liblibrary.so", source("library.c")], folder)
+    build("gcc", C_FLAGS + ["-shared", "-fPIC", "-o", "libwaits.so", source("waits.c"), "-ldl"], folder)
     flags = ["-L.", "-Wl,--no-as-needed", "-llibrary", "-Wl,-rpath,$ORIGIN"]
     build("gcc", C_FLAGS + ["-o", "uses-library", source("uses_library.c")] + flags, folder)
     return folder

@@ -87,6 +87,19 @@ def test_program_with_address_sanitizer():
     assert len(run.lines()) == 8, str(run.lines())
 
 
+def test_program_with_thread_sanitizer_of_gcc():
+    """It is a library behind the recorder. Where waits for conditions went past it, it would take a mutex for locked all the while,
+    and say so."""
+    command = ["gcc", "-fsanitize=thread", *C_FLAGS, "-o", "locks-tsan", os.path.join(SOURCES, "locks.c")]
+    if subprocess.run(command, stderr=subprocess.PIPE).returncode != 0:
+        pytest.skip("no ThreadSanitizer of gcc here")
+    if subprocess.run(["./locks-tsan", "conditions"], stderr=subprocess.PIPE).returncode != 0:
+        pytest.skip("ThreadSanitizer doesn't run here")
+    run = record("./locks-tsan", "conditions")
+    assert run.status == 0 and "ThreadSanitizer" not in run.said, run.said
+    assert len(run.lines()) == 12, str(run.lines())
+
+
 def test_program_with_thread_sanitizer_of_clang():
     """It puts functions of its own before those of the C library into the program: a call's place is that of who called them."""
     command = ["clang", "-fsanitize=thread", *C_FLAGS, "-o", "locks-tsan", os.path.join(SOURCES, "locks.c")]
@@ -150,6 +163,14 @@ def test_closed_standard_files():
     assert done.returncode == 0, "status %d" % done.returncode
     traces = [name for name in os.listdir(".") if name.startswith("t.std")]
     assert len(traces) == 1 and len(read_lines(traces[0])) == 2, str(traces)
+
+
+def test_an_earlier_preload_library_has_the_waits():
+    """Its functions have no version, as those of the C library have, of which there are two."""
+    environment = dict(os.environ, LD_PRELOAD=os.path.abspath("libwaits.so"))
+    run = record("./locks", "conditions", environment=environment)
+    assert run.status == 0, run.said
+    assert "waits: 1, with a deadline: 2\n" in run.said, run.said
 
 
 def test_an_earlier_preload_library_stays():
