@@ -291,11 +291,33 @@ static int path_mapped(uintptr_t start, char *path, size_t size)
     return found != NULL;
 }
 
-/* What the loader was given may be relative to a folder in which the process, or who reads this, isn't any more. */
-static void library_path(struct module *module, const char *name)
+/* What the loader was given may be relative to a folder in which the process, or who reads this, isn't any more. Gives
+ * the path by which the file is read. */
+static const char *library_file(struct module *module, const char *name)
 {
     if (name[0] == '/' || !strchr(name, '/') || !path_mapped(module->start, module->path, sizeof module->path))
         snprintf(module->path, sizeof module->path, "%s", name);
+    return module->path;
+}
+
+/* Where the loader was run as a program, with the program as its argument, the system takes the loader for the program.
+ * It then has told the loader of no other one. */
+static int is_run_by_loader(void)
+{
+    return getauxval(AT_BASE) == 0;
+}
+
+static const char *program_file(struct module *module)
+{
+    static const char program[] = "/proc/self/exe"; /* is there also where the file was deleted */
+    ssize_t length = is_run_by_loader() ? 0 : readlink(program, module->path, sizeof module->path - 1);
+    if (length > 0) {
+        module->path[length] = 0;
+        return program;
+    }
+    if (!path_mapped(module->start, module->path, sizeof module->path))
+        snprintf(module->path, sizeof module->path, "%s", program_path);
+    return module->path;
 }
 
 static void module_add(struct dl_phdr_info *info, uintptr_t start, uintptr_t end, uint64_t look)
@@ -306,18 +328,13 @@ static void module_add(struct dl_phdr_info *info, uintptr_t start, uintptr_t end
     module->bias = info->dlpi_addr;
     module->start = start;
     module->end = end;
-    static const char program[] = "/proc/self/exe"; /* is there also where the file was deleted */
     int is_program = !info->dlpi_name || !info->dlpi_name[0];
-    ssize_t length = is_program ? readlink(program, module->path, sizeof module->path - 1) : 0;
-    if (length > 0)
-        module->path[length] = 0;
-    else
-        library_path(module, is_program ? program_path : info->dlpi_name);
+    const char *file = is_program ? program_file(module) : library_file(module, info->dlpi_name);
     const char *base = strrchr(module->path, '/');
     base = base ? base + 1 : module->path;
     module->all_wrappers = strncmp(base, "libstdc++.so", 12) == 0 || strncmp(base, "libc++.so", 9) == 0;
     if (!module->all_wrappers)
-        module_find_wrappers(module, length > 0 ? program : module->path);
+        module_find_wrappers(module, file);
     module->seen = look;
     modules[module_count] = module;
     __atomic_store_n(&module_count, module_count + 1, __ATOMIC_RELEASE);

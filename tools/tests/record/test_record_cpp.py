@@ -1,5 +1,7 @@
 """Wrappers of C++: the places are those of the program that uses them, and the names are the program's."""
 
+import os
+import re
 import shutil
 
 import pytest
@@ -66,6 +68,15 @@ WRAPPERS = """
 )
 def test_wrappers(program):
     run = record("./wrappers-" + program)
+    assert run.status == 0, run.said
+    compare(run.lines(), known(WRAPPERS, "wrappers.cc"))
+
+
+def test_wrappers_of_a_program_that_the_loader_is_given():
+    """To the system the loader is the program then. The program's own file has the lines, and says what the C++ library in it is."""
+    with open("wrappers-static", "rb") as file:
+        loader = re.search(rb"/lib[\w/.-]*/ld-[\w.-]+", file.read())
+    run = record(os.fsdecode(loader.group()), "./wrappers-static")
     assert run.status == 0, run.said
     compare(run.lines(), known(WRAPPERS, "wrappers.cc"))
 
