@@ -42,6 +42,7 @@ EXAMPLES = 256  # how many threads at most are in all windows for what they do
 PIECE = 1 << 16  # words that are looked at at once
 KIND_AND_SITE = 0 if sys.byteorder == "little" else 1  # which half of a word has these
 HELD_LIMIT = 64
+NAME_LIMIT = 20000  # bytes: goodlock reads lines of up to 65,536, which have a thread, a lock or another thread, and a place
 
 
 # In the mangled name of the class of what a thread of the C++ library runs: how the first of what the thread was given begins where
@@ -447,7 +448,17 @@ def scan_events(process, threads):
 
 def clean(text):
     """Names stand between bars, in lines."""
-    return re.sub(r"[\x00-\x1f\x7f]", "?", text.replace("|", "!")) or "?"
+    return within_line(re.sub(r"[\x00-\x1f\x7f]", "?", text.replace("|", "!")) or "?")
+
+
+def within_line(name):
+    """What a line has no room for stands in it as a digest."""
+    if len(name) <= NAME_LIMIT // 4:  # a character has four bytes at most
+        return name
+    data = name.encode("utf-8", "backslashreplace")
+    if len(data) <= NAME_LIMIT:
+        return name
+    return "%s~%s" % (data[:NAME_LIMIT].decode("utf-8", "ignore"), hashlib.blake2b(data, digest_size=8).hexdigest())
 
 
 def without_parameters(name):
