@@ -118,6 +118,7 @@ class Modules:
         self.loaded = []
         self.when = 0
         self.borders = None
+        self.names = None
 
     def load(self, values, module):
         self.loaded.append(LoadedModule(values, module, self.when))
@@ -144,6 +145,12 @@ class Modules:
             if loaded.since >= when:
                 return loaded
         return None
+
+    def name_of(self, module):
+        """That of its file, with as many directories as tell it from others of the process."""
+        if self.names is None:
+            self.names = short_paths({loaded.module.path for loaded in self.loaded})
+        return os.fsencode(self.names[module.path] or "?").decode("utf-8", "backslashreplace")
 
 
 class Process:
@@ -553,7 +560,8 @@ class Sources:
         if own:
             return [self.with_function("%s:%d" % (self.short[path], line), name) for name, path, line in own]
         symbol = loaded.module.symbol_at(offset) if self.functions else None
-        return [self.with_function("%s+0x%x" % (loaded.module.name, offset), symbol.name if symbol else None)]
+        place = "%s+0x%x" % (process.modules.name_of(loaded.module), offset)
+        return [self.with_function(place, symbol.name if symbol else None)]
 
 
 class Names:
@@ -659,12 +667,13 @@ class Names:
                 found.setdefault((loaded.module, lock.address - loaded.bias), []).append(lock)
         symbols = {place: place[0].symbol_at(place[1]) for place in found}
         readable = demangled(s.name for s in symbols.values() if s)
-        names = {place: static_name(place, symbols[place], readable) for place in found}
+        addresses = {place: "%s+0x%x" % (self.process.modules.name_of(place[0]), place[1]) for place in found}
+        names = {place: static_name(place, symbols[place], readable) or addresses[place] for place in found}
         shared = Counter(names.values())
         for place, group in found.items():
             name = names[place]
             if shared[name] > 1:
-                name = "%s@%s+0x%x" % (name, place[0].name, place[1])
+                name = "%s@%s" % (name, addresses[place])
             for lock in group:
                 self.name_counted(lock, name)
 
@@ -729,9 +738,9 @@ def routine_name(symbol, readable):
 
 
 def static_name(place, symbol, readable):
-    module, offset = place
+    _, offset = place
     if symbol is None:
-        return "%s+0x%x" % (module.name, offset)
+        return None
     name = short_variable(readable.get(symbol.name, symbol.name))
     return name if offset == symbol.start else "%s+0x%x" % (name, offset - symbol.start)
 

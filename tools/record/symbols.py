@@ -125,7 +125,6 @@ class Module:
     def __init__(self, path):
         self.path = path
         self.file = path  # by which it is read: another one where its own is gone
-        self.name = os.fsencode(os.path.basename(path) or "?").decode("utf-8", "backslashreplace")
         self.symbols = None
         self.starts = None
         self.lines = {}  # what addr2line has answered already
