@@ -66,7 +66,7 @@
  * goodlock_pull     the same look, and two lists that grow: some 60 nanoseconds for an event at most. It takes memory
  *                   for what it keeps: 38 bytes for each event, and up to twice that where a list has just grown.
  *
- * So a session grows as long as it runs. A lane takes 4 KB, and 24 bytes for each note of its ring. bench/library.sh
+ * So a session grows as long as it runs. A lane takes 4 KB, and 16 bytes for each note of its ring. bench/library.sh
  * measures these. What the other calls cost is said of each. */
 #ifndef GOODLOCK_H
 #define GOODLOCK_H

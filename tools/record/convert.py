@@ -42,7 +42,7 @@ EXAMPLES = 256  # how many threads at most are in all windows for what they do
 PIECE = 1 << 16  # words that are looked at at once
 KIND_AND_SITE = 0 if sys.byteorder == "little" else 1  # which half of a word has these
 HELD_LIMIT = 64
-NAME_LIMIT = 20000  # bytes: goodlock reads lines of up to 65,536, which have a thread, a lock or another thread, and a place
+NAME_LIMIT = 20000  # bytes: a line, which has a thread, a lock or another thread, and a place, has 65,536 at most
 
 
 # In the mangled name of the class of what a thread of the C++ library runs: how the first of what the thread was given begins where
