@@ -1,9 +1,19 @@
 """Predicted cycles that it brings about."""
 
+import os
 import re
+import subprocess
+import textwrap
 
-from c_programs import MARKS
-from confirming import DEADLOCKED, PATIENTLY, deadlocks, run
+from c_programs import MARKS, TOOLS
+from confirming import DEADLOCKED, PATIENTLY, VIEW, deadlocks, run
+
+
+def test_finding_of_the_documentation(predict):
+    """The page has what the viewer prints of it, with its lines and its id."""
+    shown = subprocess.run([VIEW, "--text", predict("opposite")], stdout=subprocess.PIPE).stdout.decode()
+    with open(os.path.join(os.path.dirname(TOOLS), "docs", "CONFIRMING.md")) as page:
+        assert "\n\n%s\n" % textwrap.indent(shown, "    ") in page.read(), shown
 
 
 def test_opposite_orders(predict):
