@@ -42,6 +42,7 @@ EXAMPLES = 256  # how many threads at most are in all windows for what they do
 PIECE = 1 << 16  # words that are looked at at once
 KIND_AND_SITE = 0 if sys.byteorder == "little" else 1  # which half of a word has these
 HELD_LIMIT = 64
+DEPTH_LIMIT = 1000000
 NAME_LIMIT = 20000  # bytes: a line, which has a thread, a lock or another thread, and a place, has 65,536 at most
 
 
@@ -803,10 +804,11 @@ class Summary:
                 self.kinds[UPGRADE],
             )
         if self.kinds[BEYOND]:
-            yield "%s: %d acquires by threads that held %d locks (`beyond` lines): goodlock skips these" % (
+            yield "%s: %d acquires by threads that held %d locks, or the lock %d times (`beyond` lines): goodlock skips these" % (
                 self.path,
                 self.kinds[BEYOND],
                 HELD_LIMIT,
+                DEPTH_LIMIT,
             )
         if len(self.process.threads) > THREAD_LIMIT:
             yield from self.too_many_lines()

@@ -54,7 +54,7 @@ enum event_kind {
     EVENT_FORK = 7,
     EVENT_JOIN = 8,
     EVENT_UPGRADE = 9, /* exclusive acquire of a lock that the thread holds shared */
-    EVENT_BEYOND = 10, /* acquire by a thread that holds HELD_LIMIT locks */
+    EVENT_BEYOND = 10, /* acquire by a thread that holds HELD_LIMIT locks, or the lock DEPTH_LIMIT times */
     EVENT_AGAIN = 11,  /* acquire of a lock that the thread holds and that isn't recursive */
 };
 

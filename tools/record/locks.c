@@ -141,6 +141,8 @@ uint64_t *acquire_write_further(struct thread *thread, uint64_t word, struct hel
         word = call | EVENT_UPGRADE;
     else if (plain)
         word = call | EVENT_AGAIN;
+    else if (held->depth == DEPTH_LIMIT)
+        word = call | EVENT_BEYOND;
     else
         held->depth++;
     if (held)

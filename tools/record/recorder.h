@@ -126,6 +126,7 @@ void pages_drop(void *pages, size_t bytes);
 /* --- Threads -------------------------------------------------------------------------------------------- */
 
 #define HELD_LIMIT 64
+#define DEPTH_LIMIT 1000000 /* goodlock takes no more acquires of a lock by a thread that holds it */
 
 struct held {
     uint64_t word;     /* of the acquire that opened it */

@@ -489,6 +489,16 @@ static void beyond(void)
     one_pair();
 }
 
+/* As where a release is forgotten: the thread never has to wait for itself. */
+static void leaks(void)
+{
+    pthread_mutex_t lock = PTHREAD_RECURSIVE_MUTEX_INITIALIZER_NP;
+    for (int i = 0; i < 1000002; i++)
+        pthread_mutex_lock(&lock);                                             /* @leaks_lock */
+    for (int i = 0; i < 1000002; i++)
+        pthread_mutex_unlock(&lock);                                           /* @leaks_unlock */
+}
+
 static void stray(void)
 {
     pthread_mutex_unlock(&a);                                                  /* @stray */
@@ -1087,7 +1097,7 @@ static const struct {
     {"owner_died", owner_died}, {"made_again", made_again}, {"rwlocks", rwlocks}, {"spins", spins}, {"c11", c11},
     {"conditions", conditions}, {"cancel", cancel}, {"threads", threads}, {"two_makers", two_makers},
     {"racing", racing}, {"deadlock", deadlock}, {"aborts", aborts}, {"leaves_at_once", leaves_at_once},
-    {"upgrade", upgrade}, {"again_plain", again_plain}, {"handed_over", handed_over}, {"beyond", beyond}, {"gives_up_root", gives_up_root},
+    {"upgrade", upgrade}, {"again_plain", again_plain}, {"handed_over", handed_over}, {"beyond", beyond}, {"leaks", leaks}, {"gives_up_root", gives_up_root},
     {"hides_its_files", hides_its_files}, {"cancelled_in_once", cancelled_in_once},
     {"many_locks", many_locks}, {"waits_in_background", waits_in_background}, {"stray", stray}, {"keys", keys}, {"signals", signals}, {"signal_storm", signal_storm},
     {"ring", ring}, {"two_rings", two_rings}, {"deeper", deeper}, {"no_threads", no_threads},

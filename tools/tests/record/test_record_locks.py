@@ -1,9 +1,10 @@
 """Which calls make which events, and by what name a lock goes."""
 
+import itertools
 import os
 import signal
 
-from c_traces import PAIR, expect, known
+from c_traces import PAIR, expect, known, record
 from known_traces import RECORD, compare, ended
 
 
@@ -255,6 +256,19 @@ def test_more_locks_than_goodlock_reads():
         text.append("main|rel(%s)|@beyond_unlock" % ("many" if i == 0 else "many+0x%x" % (40 * i)))
     run = expect("beyond", "\n".join(text) + PAIR)
     assert "2 acquires by threads that held 64 locks" in run.said, run.said
+
+
+def test_lock_taken_more_often_than_goodlock_reads():
+    """What is beyond that counts as not taken: the lock is released as often as it was, and then the releases are strays, of which the
+    first one is kept."""
+    run = record("./locks", "leaks")
+    assert run.status == 0, run.said
+    assert "2 acquires by threads that held 64 locks, or the lock 1000000 times" in run.said, run.said
+    (lock,) = known("mutex@@leaks_lock#1")
+    counts = {line: len(list(group)) for line, group in itertools.groupby(run.lines())}
+    words = {"acq": 1000000, "beyond": 2, "rel": 1000001}
+    places = {"acq": "@leaks_lock", "beyond": "@leaks_lock", "rel": "@leaks_unlock"}
+    assert counts == {known(f"main|{word}({lock})|{places[word]}")[0]: count for word, count in words.items()}, counts
 
 
 def test_release_of_a_lock_that_is_not_held():
