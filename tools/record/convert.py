@@ -669,7 +669,7 @@ class Names:
         symbols = {place: place[0].symbol_at(place[1]) for place in found}
         readable = demangled(s.name for s in symbols.values() if s)
         addresses = {place: "%s+0x%x" % (self.process.modules.name_of(place[0]), place[1]) for place in found}
-        names = {place: static_name(place, symbols[place], readable) or addresses[place] for place in found}
+        names = {place: clean(static_name(place, symbols[place], readable) or addresses[place]) for place in found}
         shared = Counter(names.values())
         for place, group in found.items():
             name = names[place]
@@ -701,6 +701,7 @@ class Names:
         return counts
 
     def name_counted(self, lock, name):
+        name = clean(name)  # others may be the same then
         count = self.count(lock.number, name)
         self.locks[lock.number] = clean(name if count == 1 else "%s#%d" % (name, count))
 

@@ -9,7 +9,7 @@ from c_programs import C_FLAGS, SOURCES, build, put
 @pytest.fixture(scope="session")
 def programs(tmp_path_factory):
     folder = tmp_path_factory.mktemp("programs")
-    for name in ("statics", "callers", "functions", "names", "routines", "long"):
+    for name in ("statics", "callers", "functions", "names", "operators", "routines", "long"):
         source = os.path.join(SOURCES, name + ".cc")
         build("g++", C_FLAGS + ["-std=c++17", "-O0", "-o", name, source], folder)
     source = os.path.join(SOURCES, "functions.cc")

@@ -2,6 +2,7 @@
 
 import json
 import os
+import re
 import subprocess
 import sys
 
@@ -58,6 +59,16 @@ def test_names_of_locks_in_functions():
     ]
     locks = [line.split("|")[1] for line in run.lines()]
     compare([lock[len("acq(") : -1] for lock in locks if lock.startswith("acq(")], known)
+
+
+def test_names_of_locks_that_differ_in_a_bar():
+    """A bar is shown as another mark, and the locks are two all the same."""
+    run = Run(["./operators"])
+    assert run.status == 0, run.said
+    outer, inner, *others = [re.fullmatch(r"main\|(acq|rel)\((.*)\)\|.*", line).groups() for line in run.lines()]
+    assert others == [("rel", inner[1]), ("rel", outer[1])] and outer[1] != inner[1], run.lines()
+    for _, lock in (outer, inner):
+        assert re.fullmatch(r"operator!::guard@operators\+0x[0-9a-f]+", lock), lock
 
 
 def test_names_of_locks_have_none():
