@@ -63,6 +63,18 @@ RUNTIMES = (
         "GMutex and bit locks (g_mutex_lock) don't pass the C library and aren't in this trace "
         "(GRWLock and GRecMutex are); no tool here records them",
     ),
+    Runtime(
+        "Qt",
+        r"libQt\dCore\w*\.so[\d.]*",
+        re.compile(rb"\0QMutex: destroying locked mutex\0"),
+        "QMutex, QRecursiveMutex and QReadWriteLock don't pass the C library and aren't in this trace; no tool here records them",
+    ),
+    Runtime(
+        "Abseil",
+        r"libabsl_synchronization\.so[\d.]*",
+        re.compile(rb"Mutex corrupt: both reader and writer lock held"),
+        "absl::Mutex doesn't pass the C library and isn't in this trace; no tool here records it",
+    ),
 )
 
 # These have no runtime in themselves, and are in every program.

@@ -18,7 +18,11 @@ int NAME(void)
 """
 GO = r'const char mark[] __attribute__((used)) = "\xff Go buildinf:";'
 RUST = 'const char mark[] __attribute__((used)) = "/rustc/%s/library/std/src/sync/mutex.rs";' % ("0a" * 20)
+QT = 'const char mark[] __attribute__((used)) = "\\0QMutex: destroying locked mutex";'
+ABSEIL = 'const char mark[] __attribute__((used)) = "%s: Mutex corrupt: both reader and writer lock held: %p";'
 PYTHON = '__attribute__((visibility("default"))) int Py_BytesMain(void) { return 0; }'
+
+LIBRARIES = "libjvm libpython3.11 libgomp libomp libglib-2.0 libQt5Core libQt6Core libabsl_synchronization".split()
 
 
 def compile_program(folder, output, mark, *options, name="main"):
@@ -43,7 +47,9 @@ def built(tmp_path_factory):
     compile_program(folder, "go-dynamic", GO)
     compile_program(folder, "rust", RUST)
     compile_program(folder, "embeds-python", PYTHON, "-rdynamic")
-    for library in ("libjvm", "libpython3.11", "libgomp", "libomp", "libglib-2.0"):
+    compile_program(folder, "has-qt", QT)
+    compile_program(folder, "has-abseil", ABSEIL)
+    for library in LIBRARIES:
         compile_program(folder, library + ".so", "", "-shared", "-fPIC", name="runtime")
         with open(folder / "uses.c", "w") as file:
             file.write("int runtime(void); int main(void) { return runtime(); }\n")

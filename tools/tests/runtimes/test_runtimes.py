@@ -55,3 +55,15 @@ def test_several_processes():
 def test_glib():
     said = said_of("uses-libglib-2.0")
     assert "has GLib: GMutex" in said, said
+
+
+def test_qt():
+    for program in ("uses-libQt5Core", "uses-libQt6Core", "has-qt"):
+        said = said_of(program)
+        assert "has Qt: QMutex, QRecursiveMutex and QReadWriteLock don't pass the C library" in said, said
+
+
+def test_abseil():
+    for program in ("uses-libabsl_synchronization", "has-abseil"):
+        said = said_of(program)
+        assert "has Abseil: absl::Mutex doesn't pass the C library" in said, said
