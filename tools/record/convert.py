@@ -4,6 +4,7 @@ here are the tables and the names."""
 import bisect
 import errno
 import hashlib
+import itertools
 import mmap
 import os
 import re
@@ -137,15 +138,16 @@ class Modules:
         if self.borders is None:
             self.borders = sorted({m.start for m in self.loaded} | {m.end for m in self.loaded})
             self.parts = [[m for m in self.loaded if m.start <= border < m.end] for border in self.borders]
+            self.since = [[m.since for m in part] for part in self.parts]
         place = bisect.bisect_right(self.borders, address) - 1
-        there = self.parts[place] if place >= 0 else ()
-        for loaded in reversed(there):
-            if loaded.since < when and (loaded.until is None or when <= loaded.until):
+        if place < 0:
+            return None
+        there = self.parts[place]
+        later = bisect.bisect_left(self.since[place], when)
+        for loaded in itertools.islice(reversed(there), len(there) - later, None):
+            if loaded.until is None or when <= loaded.until:
                 return loaded
-        for loaded in there:
-            if loaded.since >= when:
-                return loaded
-        return None
+        return there[later] if later < len(there) else None
 
     def name_of(self, module):
         """That of its file, with as many directories as tell it from others of the process."""

@@ -37,11 +37,12 @@ struct module {
     int gone;         /* unloaded */
     uint64_t seen;    /* the last look that found it */
     struct range *wrappers;
-    size_t wrapper_count;
+    size_t wrapper_count, wrapper_room;
     char path[1024];
 };
 
-/* Kept over forks: a child has the same modules. `process.modules` counts those in this process's file. */
+/* Kept over forks: a child has the same modules. `process.modules` counts those in this process's file. One that was
+ * unloaded stays until another one has its place, so a program may load and unload as often as it likes. */
 #define MODULE_LIMIT 2048
 static struct module *modules[MODULE_LIMIT];
 static size_t module_count;
@@ -50,7 +51,8 @@ static size_t module_count;
 static struct module *module_of(uintptr_t address)
 {
     for (size_t i = __atomic_load_n(&module_count, __ATOMIC_ACQUIRE); i-- > 0;)
-        if (!modules[i]->gone && address >= modules[i]->start && address < modules[i]->end)
+        if (!__atomic_load_n(&modules[i]->gone, __ATOMIC_ACQUIRE) && address >= modules[i]->start &&
+            address < modules[i]->end)
             return modules[i];
     return NULL;
 }
@@ -189,6 +191,19 @@ static const ElfW(Shdr) * symbol_table(const char *file, size_t size)
     return NULL;
 }
 
+/* That of the module before in this place, if there are as many: another thread may still be reading it. */
+static struct range *wrappers_room(struct module *module, size_t count)
+{
+    if (count > module->wrapper_room) {
+        struct range *ranges = pages_new(count * sizeof *ranges);
+        if (!ranges)
+            return NULL;
+        module->wrappers = ranges;
+        module->wrapper_room = count;
+    }
+    return module->wrappers;
+}
+
 static void module_find_wrappers(struct module *module, const char *path)
 {
     int file = open(path, O_RDONLY | O_CLOEXEC);
@@ -206,10 +221,9 @@ static void module_find_wrappers(struct module *module, const char *path)
     if (table) {
         const ElfW(Shdr) *strings = (const ElfW(Shdr) *)(bytes + ((const ElfW(Ehdr) *)bytes)->e_shoff) + table->sh_link;
         size_t count = wrappers_among(bytes, size, table, strings, module->bias, NULL);
-        struct range *ranges = count ? pages_new(count * sizeof *ranges) : NULL;
+        struct range *ranges = wrappers_room(module, count);
         if (ranges) {
             wrappers_among(bytes, size, table, strings, module->bias, ranges);
-            module->wrappers = ranges;
             module->wrapper_count = count;
         }
     }
@@ -320,14 +334,34 @@ static const char *program_file(struct module *module)
     return module->path;
 }
 
-static void module_add(struct dl_phdr_info *info, uintptr_t start, uintptr_t end, uint64_t look)
+static void module_forget(struct module *module);
+
+/* Where a new module lies no other one is any more: the C library unloads some by itself. Locks that were met there
+ * since are the new one's. */
+static void modules_forget_within(uintptr_t start, uintptr_t end)
 {
-    struct module *module = pages_new(sizeof *module);
-    if (!module || module_count == MODULE_LIMIT)
-        return;
+    for (size_t i = 0; i < module_count; i++)
+        if (!modules[i]->gone && modules[i]->start < end && start < modules[i]->end)
+            module_forget(modules[i]);
+}
+
+/* The place of one that was unloaded, else a new one behind all others; MODULE_LIMIT where there is none. */
+static size_t module_place(void)
+{
+    for (size_t i = 0; i < module_count; i++)
+        if (modules[i]->gone)
+            return i;
+    if (module_count < MODULE_LIMIT)
+        modules[module_count] = pages_new(sizeof *modules[0]);
+    return module_count < MODULE_LIMIT && modules[module_count] ? module_count : MODULE_LIMIT;
+}
+
+static void module_fill(struct module *module, const struct dl_phdr_info *info, uintptr_t start, uintptr_t end)
+{
     module->bias = info->dlpi_addr;
     module->start = start;
     module->end = end;
+    module->wrapper_count = 0;
     int is_program = !info->dlpi_name || !info->dlpi_name[0];
     const char *file = is_program ? program_file(module) : library_file(module, info->dlpi_name);
     const char *base = strrchr(module->path, '/');
@@ -335,9 +369,23 @@ static void module_add(struct dl_phdr_info *info, uintptr_t start, uintptr_t end
     module->all_wrappers = strncmp(base, "libstdc++.so", 12) == 0 || strncmp(base, "libc++.so", 9) == 0;
     if (!module->all_wrappers)
         module_find_wrappers(module, file);
+}
+
+/* One in the place of another one is told at once, as that one was. */
+static void module_add(const struct dl_phdr_info *info, uintptr_t start, uintptr_t end, uint64_t look)
+{
+    modules_forget_within(start, end);
+    size_t place = module_place();
+    if (place == MODULE_LIMIT)
+        return;
+    struct module *module = modules[place];
+    module_fill(module, info, start, end);
     module->seen = look;
-    modules[module_count] = module;
-    __atomic_store_n(&module_count, module_count + 1, __ATOMIC_RELEASE);
+    __atomic_store_n(&module->gone, 0, __ATOMIC_RELEASE);
+    if (place < process.modules)
+        module_describe(module);
+    if (place == module_count)
+        __atomic_store_n(&module_count, module_count + 1, __ATOMIC_RELEASE);
 }
 
 /* The range of addresses that a module's parts lie in; whether there is one. */
@@ -456,7 +504,7 @@ static void sites_end(const struct module *module)
         }
 }
 
-static void module_end(struct module *module)
+static void module_forget(struct module *module)
 {
     struct unloaded_record *record = record_new(RECORD_UNLOADED, sizeof *record);
     if (record) {
@@ -466,8 +514,13 @@ static void module_end(struct module *module)
     module->gone = 1;
     unloads++;
     sites_end(module);
-    memory_end_inside(module->start, module->end);
     __atomic_fetch_add(&process.generation, 1, __ATOMIC_RELEASE);
+}
+
+static void module_end(struct module *module)
+{
+    module_forget(module);
+    memory_end_inside(module->start, module->end);
 }
 
 void modules_check(void)

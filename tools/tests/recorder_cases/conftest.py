@@ -14,7 +14,7 @@ def programs(tmp_path_factory):
         build("g++", C_FLAGS + ["-std=c++17", "-O0", "-o", name, source], folder)
     source = os.path.join(SOURCES, "functions.cc")
     build("g++", C_FLAGS + ["-std=c++17", "-O0", "-g0", "-o", "functions-without-lines", source], folder)
-    for name in ("crowd", "chain", "mapped", "varying", "twins"):
+    for name in ("crowd", "chain", "mapped", "varying", "twins", "reloads"):
         build("gcc", C_FLAGS + ["-O1", "-o", name, os.path.join(SOURCES, name + ".c"), "-ldl"], folder)
     return folder
 

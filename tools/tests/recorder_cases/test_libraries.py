@@ -1,16 +1,21 @@
-"""Libraries whose files have the same name, in folders of their own."""
+"""Libraries that come and go: whose files have the same name, in folders of their own, and that are loaded again and again."""
 
 import os
 import re
 import shutil
 
 from c_programs import C_FLAGS, SOURCES, Run, build
+from known_traces import compare
+
+
+def build_plugin(output, name, line, *flags):
+    flags = ["-shared", "-fPIC", "-DNAME=" + name, "-DLINE=%d" % line, *flags]
+    build("gcc", [*C_FLAGS, *flags, "-o", output, os.path.join(SOURCES, "plugin.c")])
 
 
 def events_of_twins(*flags):
     """What is recorded of a program with two libraries of one name, as (lock, place) of each event."""
-    source = os.path.join(SOURCES, "plugin.c")
-    build("gcc", [*C_FLAGS, "-shared", "-fPIC", "-DNAME=twin", "-DLINE=100", *flags, "-o", "twin.so", source])
+    build_plugin("twin.so", "twin", 100, *flags)
     for folder in ("one", "two"):
         os.mkdir(folder)
         shutil.copy("twin.so", folder)
@@ -38,3 +43,19 @@ def test_locks_of_one_symbol():
     assert re.fullmatch(r"lock_of_twin@two/twin\.so\+0x[0-9a-f]+", locks[0]), locks
     assert locks[2] == locks[0].replace("@two/", "@one/"), locks
     assert {place for _, place in events} == {"plugin.c:100"}, events
+
+
+def test_more_loads_than_there_are_places_for_libraries():
+    """There are places for 2,048 at once, and one that was unloaded has none."""
+    times = 1100
+    build_plugin("one.so", "one", 100)
+    build_plugin("two.so", "two", 200)
+    run = Run(["./reloads", str(times), "./one.so", "./two.so"])
+    assert run.status == 0, run.said
+    known = [
+        "main|%s(lock_of_%s%s)|plugin.c:%d" % (word, name, "#%d" % i if i > 1 else "", line)
+        for i in range(1, times + 1)
+        for name, line in (("one", 100), ("two", 200))
+        for word in ("acq", "rel")
+    ]
+    compare(run.lines(), known)
