@@ -271,6 +271,18 @@ def processes_at_once(clone):
     equal((calls[6][:3], calls.index("fourth --jobs 1") > 6), ("end", True))
 
 
+def processes_are_shared(clone):
+    """Of four crates of one length that stand on one, with four jobs, each has two processes."""
+    clone.write(
+        "crates.txt", "low:\nfifth: low\nfourth: low\nsixth: low\nthird: low\ngoodlock: fifth fourth sixth third\n"
+    )
+    for crate in ("fifth", "fourth", "sixth", "third"):
+        clone.write(f"crates/{crate}/src/lib.rt", "fn f() {}\n")
+    calls = clone.run(*WORDS, GOODLOCK_BUILD="1", JOBS="4", BESIDE="fifth fourth sixth third")[3]
+    equal(calls[:3], ["share", "low --jobs 4", "end low"])
+    equal(sorted(calls[3:7]), [f"{crate} --jobs 2" for crate in ("fifth", "fourth", "sixth", "third")])
+
+
 def stands_back(clone):
     """What isn't on the longest chain leaves the processors to what is."""
     nice = clone.tools / "nice"
@@ -385,6 +397,7 @@ TESTS = (
     called_otherwise,
     built_where_asked,
     processes_at_once,
+    processes_are_shared,
     stands_back,
     progress_is_told,
     changed_source,

@@ -5,9 +5,10 @@
 
 A crate begins once those that it stands on are proved, the one that leads the longest chain first. On one of the longest
 chains, which say when the last crate is done, it gets as many processes as --jobs says (one for each processor, as long as
-there is memory for them). Any other gets one, which is the cheapest, and the more lines it could begin later by, the more
-it stands back: a check begins and ends with one process alone, and what stands beside it fills the others' time. Twice
-as many processes as --jobs says run at once at the most. Programs themselves are left to `rt run`. Standard output has a
+there is memory for them); where several of them are to run at once, they share twice as many. Any other gets one, which
+is the cheapest, and the more lines it could begin later by, the more it stands back: a check begins and ends with one
+process alone, and what stands beside it fills the others' time. Twice as many processes as --jobs says run at once at the
+most. Programs themselves are left to `rt run`. Standard output has a
 line for each crate that is done, and what a check said that failed. Status: 0 proved, 1 not proved, 2 the words were
 wrong, 3 the toolchain at hand can't be used so.
 """
@@ -58,10 +59,15 @@ def delays(crates):
     return {crate: 1 - (up[crate] + down[crate]) / max(longest, 1) for crate in crates}
 
 
-def jobs_for(processes, idle, memory):
-    """How many processes a crate's check gets: all of them, where so many are idle and there is memory for each."""
+def share_of(processes, leading):
+    """How many processes each of so many crates of the longest chains gets, which are to run at once."""
+    return max(1, min(processes, 2 * processes // max(leading, 1)))
+
+
+def jobs_for(share, idle, memory):
+    """How many processes a crate's check gets: its share, where so many are idle and there is memory for each."""
     room = 1 + (memory - toolchain.MEMORY_OF_A_CHECK) // toolchain.MEMORY_OF_A_JOB
-    return max(1, min(processes, idle, room))
+    return max(1, min(share, idle, room))
 
 
 def in_order(crates, processes, work, told):
@@ -70,12 +76,14 @@ def in_order(crates, processes, work, told):
     left = sorted(crates, key=lambda crate: -chains[crate])
     running, passed, taken = {}, set(), {}
     while left or running:
-        for crate in [crate for crate in left if passed.issuperset(crate.below())]:
+        ready = [crate for crate in left if passed.issuperset(crate.below())]
+        share = share_of(processes, sum(delay[crate] < SHORT for crate in [*ready, *running.values()]))
+        for crate in ready:
             idle = 2 * processes - sum(taken[crate] for crate in running.values())
             memory = toolchain.free_memory()
             if idle <= 0 or running and memory < toolchain.MEMORY_OF_A_CHECK:
                 break
-            taken[crate] = jobs_for(processes, idle, memory) if delay[crate] < SHORT else 1
+            taken[crate] = jobs_for(share, idle, memory) if delay[crate] < SHORT else 1
             left.remove(crate)
             running[begun(work, crate, taken[crate], min(int(NICE * delay[crate]), NICEST))] = crate
         if not running:
