@@ -8,7 +8,7 @@ use Rattle.serde_json.specs.Data.{Data}
 use Rattle.gl_std.specs.Names.{NameLists}
 use Rattle.gl_edges.specs.declared.edge.Edge.{Edge}
 use Rattle.gl_edges.specs.declared.edge.Sample.{Sample}
-use Rattle.gl_findings.specs.Findings.{class_of}
+use Rattle.gl_grounds.specs.Classes.{class_of}
 use Rattle.gl_findings.specs.declared.listing.Listing.{Listing}
 use Rattle.gl_findings.specs.declared.listing.Listing.TheVariants.{Cycles, Findings}
 use Rattle.gl_check.specs.Signatures.{AreClassesFor}

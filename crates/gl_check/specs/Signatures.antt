@@ -6,7 +6,8 @@ use Rattle.std.specs.List.Sorted.{IsStrictlySortedBy}
 use Rattle.std.specs.Ordering.{nat_cmp, is_le}
 use Rattle.gl_edges.specs.declared.edge.Edge.{Edge}
 use Rattle.gl_edges.specs.declared.edge.Sample.{Sample}
-use Rattle.gl_findings.specs.Findings.{classes_of, signature_of, turned}
+use Rattle.gl_grounds.specs.Classes.{classes_of}
+use Rattle.gl_findings.specs.Findings.{signature_of, turned}
 use Rattle.gl_findings.specs.declared.listing.Listing.{Listing}
 use Rattle.gl_findings.specs.declared.listing.Listing.TheVariants.{Cycles, Findings}
 

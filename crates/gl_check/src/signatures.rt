@@ -9,7 +9,8 @@ ghost use Rattle.gl_check.specs.Signatures.{AreClassesFor, compared_by, least_tu
 
 use gl_edges::{Edge, Sample};
 use gl_event::Memory;
-use gl_findings::{Listing, classes_of};
+use gl_findings::Listing;
+use gl_grounds::classes_of;
 use std::alloc::Global;
 
 // The classes of the edges at these positions.

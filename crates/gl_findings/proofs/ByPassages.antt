@@ -13,8 +13,8 @@ use Rattle.gl_filters.specs.Test.{lead_on}
 use Rattle.gl_index.proofs.Lists.{element_at}
 use Rattle.gl_walks.specs.declared.purpose.Purpose.TheVariants.{Front}
 use Rattle.gl_walks.specs.Walks.{is_front, kinds_together, NoWalk}
-use Rattle.gl_findings.specs.bodies.Passing.{may_pass, ArePassages}
-use Rattle.gl_findings.specs.declared.passages.Passages.{Passages}
+use Rattle.gl_grounds.specs.Passing.{may_pass, ArePassages}
+use Rattle.gl_grounds.specs.declared.passages.Passages.{Passages}
 
 -- what is behind the first of some classes
 abbrev pub tail : List (Option ℕ) → List (Option ℕ)

@@ -32,7 +32,8 @@ use Rattle.gl_cycles.proofs.AmongAllCycles.{cycle_is_there, there_is_cycle}
 use Rattle.gl_walks.specs.declared.purpose.Purpose.{Purpose}
 use Rattle.gl_walks.specs.declared.purpose.Purpose.TheVariants.{Cycle}
 use Rattle.gl_walks.specs.Walks.{IsWalk, NoWalk, IsFirstWalk}
-use Rattle.gl_findings.specs.Findings.{classes_of, first_with, is_turn, signature_of, turned}
+use Rattle.gl_grounds.specs.Classes.{classes_of}
+use Rattle.gl_findings.specs.Findings.{first_with, is_turn, signature_of, turned}
 use Rattle.gl_findings.specs.bodies.Lesser.{lesser}
 use Rattle.gl_findings.proofs.Compared.{le_trans, le_other}
 

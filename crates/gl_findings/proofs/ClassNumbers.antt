@@ -14,8 +14,7 @@ use Rattle.gl_edges.specs.declared.edge.Sample.{Sample}
 use Rattle.gl_index.proofs.Lists.{element_at}
 use Rattle.gl_index.proofs.Listed.{tells_locks}
 use Rattle.gl_findings.specs.Counts.{counts_of}
-use Rattle.gl_findings.specs.Findings.{same_places, class_of, classes_of}
-use Rattle.gl_findings.specs.bodies.Classing.{are_places, places_of}
+use Rattle.gl_grounds.specs.Classes.{same_places, class_of, classes_of, are_places, places_of}
 use Rattle.gl_findings.specs.bodies.Tallies.{AreCounted, IsTally, locks_of, noted_by, numbers_of, threads_of}
 use Rattle.gl_findings.specs.declared.counts.ClassCounts.{ClassCounts}
 use Rattle.gl_findings.proofs.Tallied.{other_back, same_back}

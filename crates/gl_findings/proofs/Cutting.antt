@@ -24,8 +24,9 @@ use Rattle.gl_cycles.proofs.CyclesAreLevel.{picked_among}
 use Rattle.gl_cycles.proofs.AmongAllCycles.{there_is_cycle}
 use Rattle.gl_walks.specs.declared.purpose.Purpose.TheVariants.{Front, Round, Turned}
 use Rattle.gl_walks.specs.Walks.{is_front, is_chain, IsWalk, NoWalk}
-use Rattle.gl_findings.specs.Findings.{class_of, classes_of, signature_of, turned, is_turn, first_with}
-use Rattle.gl_findings.specs.bodies.Grounds.{AreModels}
+use Rattle.gl_grounds.specs.Classes.{class_of, classes_of}
+use Rattle.gl_findings.specs.Findings.{signature_of, turned, is_turn, first_with}
+use Rattle.gl_grounds.specs.Models.{AreModels}
 use Rattle.gl_findings.proofs.Modelled.{AllAlike, alike_front, alike_round, models_of}
 use Rattle.gl_findings.proofs.Turning.{turned_front, turned_chain, turned_round, front_of_front}
 

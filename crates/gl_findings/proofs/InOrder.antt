@@ -29,7 +29,8 @@ use Rattle.gl_cycles.specs.Cycles.{cycles_in}
 use Rattle.gl_cycles.specs.Listed.{listed}
 use Rattle.gl_cycles.specs.declared.found.Found.{Found}
 use Rattle.gl_cycles.proofs.AmongAllCycles.{filter_from}
-use Rattle.gl_findings.specs.Findings.{classes_of, signature_of, is_turn, begins_least, first_with, findings}
+use Rattle.gl_grounds.specs.Classes.{classes_of}
+use Rattle.gl_findings.specs.Findings.{signature_of, is_turn, begins_least, first_with, findings}
 use Rattle.gl_findings.specs.bodies.Grouping.{AreFirsts, is_told}
 use Rattle.gl_findings.proofs.LeastTurns.{turn_tells, turn_and_back}
 use Rattle.gl_findings.proofs.ListsAscend.{sorted_lists}

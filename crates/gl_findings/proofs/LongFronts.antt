@@ -19,7 +19,8 @@ use Rattle.gl_cycles.proofs.AmongAllCycles.{there_is_cycle}
 use Rattle.gl_cycles.proofs.CyclesAreLevel.{picked_among}
 use Rattle.gl_cycles.proofs.EdgesOfPaths.{length-picked}
 use Rattle.gl_index.proofs.Lists.{element_at}
-use Rattle.gl_findings.specs.Findings.{class_of, classes_of, signature_of, turned, is_turn, first_with}
+use Rattle.gl_grounds.specs.Classes.{class_of, classes_of}
+use Rattle.gl_findings.specs.Findings.{signature_of, turned, is_turn, first_with}
 use Rattle.gl_findings.specs.bodies.Growing.{block}
 use Rattle.gl_pruning.specs.Limits.{AreLimits}
 use Rattle.gl_findings.specs.bodies.Lengths.{AreGreatest, AreLongest, IsAtMost, IsFull}

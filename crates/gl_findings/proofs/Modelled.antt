@@ -10,7 +10,7 @@ use Rattle.gl_filters.specs.Cycle.{asks_guards}
 use Rattle.gl_filters.specs.Picked.{picked}
 use Rattle.gl_filters.specs.Test.{waits_for, leads_to, lead_on, leads_back, last_of, kinds_go_together}
 use Rattle.gl_kinds.specs.Kinds.{AreOfOneKind}
-use Rattle.gl_findings.specs.bodies.Grounds.{AreModels}
+use Rattle.gl_grounds.specs.Models.{AreModels}
 use Rattle.gl_walks.specs.Walks.{kinds_together, is_front}
 
 -- each edge is alike with the one at its place

@@ -10,8 +10,8 @@ use Rattle.gl_filters.specs.Picked.{edges_of_table}
 use Rattle.gl_sought.specs.OffCycles.{KeepsCycles}
 use Rattle.gl_walks.specs.declared.purpose.Purpose.TheVariants.{Front}
 use Rattle.gl_walks.specs.Walks.{NoWalk}
-use Rattle.gl_findings.specs.Findings.{classes_of}
-use Rattle.gl_findings.specs.bodies.Grounds.{AreModels, IsEmptyClass}
+use Rattle.gl_grounds.specs.Classes.{classes_of}
+use Rattle.gl_grounds.specs.Models.{AreModels, IsEmptyClass}
 use Rattle.gl_findings.specs.bodies.Growing.{block}
 use Rattle.gl_findings.proofs.Below.{block-without}
 use Rattle.gl_findings.proofs.Cutting.{none_with}

@@ -10,7 +10,8 @@ use Rattle.gl_edges.specs.declared.edge.Edge.{Edge}
 use Rattle.gl_edges.specs.declared.edge.Sample.{Sample}
 use Rattle.gl_walks.specs.declared.purpose.Purpose.TheVariants.{Front, Round}
 use Rattle.gl_walks.specs.Walks.{NoWalk}
-use Rattle.gl_findings.specs.Findings.{begins_least, class_of, classes_of, first_with, is_turn}
+use Rattle.gl_grounds.specs.Classes.{class_of, classes_of}
+use Rattle.gl_findings.specs.Findings.{begins_least, first_with, is_turn}
 use Rattle.gl_findings.specs.bodies.Finding.{IsReady, block_of, below_of, finding_of}
 use Rattle.gl_findings.specs.declared.finder.Finder.{Finder}
 use Rattle.gl_findings.proofs.Below.{HasGrown, grow_begin, grow_step, grow_alone, grow_whole, block-lower, block-zero}
@@ -20,8 +21,8 @@ use Rattle.gl_findings.proofs.Cutting.{none_goes_round, none_with_turned}
 use Rattle.gl_findings.proofs.LeastTurns.{turn_of_last}
 use Rattle.gl_findings.proofs.LongFronts.{none_after_full}
 use Rattle.gl_findings.specs.bodies.Lengths.{IsFull}
-use Rattle.gl_findings.specs.bodies.Passing.{may_pass}
-use Rattle.gl_findings.specs.bodies.Running.{IsRunTwice}
+use Rattle.gl_grounds.specs.Passing.{may_pass}
+use Rattle.gl_grounds.specs.Running.{IsRunTwice}
 use Rattle.gl_findings.proofs.Passed.{none_begins, none_through}
 use Rattle.gl_findings.proofs.RunTwice.{none_by_one}
 

@@ -21,11 +21,12 @@ use Rattle.gl_cycles.specs.Laws.{IsCycleAt}
 use Rattle.gl_sought.specs.OffCycles.{KeepsCycles}
 use Rattle.gl_index.proofs.Lists.{element_at}
 use Rattle.gl_cycles.proofs.AmongAllCycles.{there_is_cycle}
-use Rattle.gl_findings.specs.Findings.{class_of, classes_of, signature_of, turned, is_turn, first_with}
+use Rattle.gl_grounds.specs.Classes.{class_of, classes_of}
+use Rattle.gl_findings.specs.Findings.{signature_of, turned, is_turn, first_with}
 use Rattle.gl_findings.specs.bodies.Growing.{block}
-use Rattle.gl_findings.specs.bodies.Running.{AreRunners, IsRunBy, IsRunTwice}
-use Rattle.gl_findings.specs.declared.runners.Runner.{Runner}
-use Rattle.gl_findings.specs.declared.runners.Runner.TheVariants.{One}
+use Rattle.gl_grounds.specs.Running.{AreRunners, IsRunBy, IsRunTwice}
+use Rattle.gl_grounds.specs.declared.runners.Runner.{Runner}
+use Rattle.gl_grounds.specs.declared.runners.Runner.TheVariants.{One}
 use Rattle.gl_findings.proofs.Below.{block-without}
 use Rattle.gl_findings.proofs.Cutting.{classes_told, cycle_is_kept, filter-nothing, split, turned_back}
 use Rattle.gl_findings.proofs.Turning.{home, homes_differ}

@@ -17,7 +17,8 @@ use Rattle.gl_cycles.proofs.CyclesAreLevel.{picked_among}
 use Rattle.gl_cycles.proofs.EdgesOfPaths.{length-picked}
 use Rattle.gl_cycles.proofs.ListsOfPositions.{upto-until}
 use Rattle.gl_cycles.proofs.NoLonger.{all_shorter}
-use Rattle.gl_findings.specs.Findings.{class_of, classes_of, signature_of, is_turn, begins_least, findings}
+use Rattle.gl_grounds.specs.Classes.{class_of, classes_of}
+use Rattle.gl_findings.specs.Findings.{signature_of, is_turn, begins_least, findings}
 use Rattle.gl_findings.specs.bodies.Growing.{finding, block}
 use Rattle.gl_findings.proofs.Below.{block-zero, block-suc, block-none, findings-block}
 use Rattle.gl_findings.proofs.Cutting.{classes_told, filter-nothing}

@@ -17,20 +17,21 @@ use Rattle.gl_walks.specs.declared.purpose.Purpose.{Purpose}
 use Rattle.gl_walks.specs.declared.walker.Walker.{Walker}
 use Rattle.gl_walks.specs.declared.purpose.Purpose.TheVariants.{Front, Round, Turned}
 use Rattle.gl_walks.specs.Walks.{is_front, kinds_together, NoWalk, HasWalkFrom}
-use Rattle.gl_findings.specs.Findings.{begins_least, classes_of}
+use Rattle.gl_grounds.specs.Classes.{classes_of}
+use Rattle.gl_findings.specs.Findings.{begins_least}
 use Rattle.gl_findings.specs.bodies.Finding.{IsReady, HasSpans, block_of, finding_of}
-use Rattle.gl_findings.specs.bodies.Starting.{NoneAt, NoneHolding}
-use Rattle.gl_findings.specs.bodies.Spanning.{AreInOrder, AreReached, GoesWith, HaveSpans, IsChain, IsDue, IsOne, KeepSpans, Leads, MayFollow, span_of}
+use Rattle.gl_grounds.specs.Starting.{NoneAt, NoneHolding}
+use Rattle.gl_grounds.specs.Spanning.{AreInOrder, AreReached, GoesWith, HaveSpans, IsChain, IsDue, IsOne, KeepSpans, Leads, MayFollow, span_of}
 use Rattle.gl_findings.specs.declared.finder.Finder.{Finder}
-use Rattle.gl_findings.specs.declared.spans.Span.{Span}
-use Rattle.gl_findings.specs.declared.spans.Spans.{Spans}
+use Rattle.gl_grounds.specs.declared.spans.Span.{Span}
+use Rattle.gl_grounds.specs.declared.spans.Spans.{Spans}
 use Rattle.gl_findings.proofs.Below.{block-zero}
 use Rattle.gl_findings.proofs.ByPassages.{front_leads, front_together, head, tail}
 use Rattle.gl_findings.proofs.Cutting.{none_goes_round, none_goes_ring}
 use Rattle.gl_findings.proofs.Modelled.{AllAlike}
 use Rattle.gl_findings.proofs.Passed.{none_begins}
 use Rattle.gl_findings.proofs.Prepared.{as_long, where_least}
-use Rattle.gl_findings.proofs.SpanSteps.{AreFollowed}
+use Rattle.gl_grounds.proofs.SpanSteps.{AreFollowed}
 
 module _ (mode : Mode) (edges : List Edge) (classes : List ℕ) (flags : List Bool) where
   -- a chain of one class more is one of the classes before, and a step

@@ -10,7 +10,7 @@ use Rattle.std.proofs.lemmas.Map.Made.{distinct_count-le}
 use Rattle.std.proofs.lemmas.Option.{same_Some, slice_get_within}
 use Rattle.gl_index.proofs.Lists.{set_here, set_elsewhere}
 use Rattle.gl_index.proofs.Listed.{tells_lock, tells_locks}
-use Rattle.gl_findings.specs.bodies.Classing.{are_places}
+use Rattle.gl_grounds.specs.Classes.{are_places}
 use Rattle.gl_findings.specs.bodies.Tallies.{IsTally, numbers_of}
 
 abbrev if_new : Bool → ℕ

@@ -17,7 +17,8 @@ use Rattle.gl_filters.specs.Picked.{edges_of_table}
 use Rattle.gl_cycles.specs.AllCycles.{all_cycles, lists_below}
 use Rattle.gl_cycles.proofs.EdgesOfPaths.{length-picked}
 use Rattle.gl_cycles.proofs.AmongAllCycles.{filter_has, filter_from, there_is_cycle}
-use Rattle.gl_findings.specs.Findings.{same_places, class_of, classes_of, signature_of, turned, is_turn, begins_least, first_with, findings}
+use Rattle.gl_grounds.specs.Classes.{same_places, class_of, classes_of}
+use Rattle.gl_findings.specs.Findings.{signature_of, turned, is_turn, begins_least, first_with, findings}
 use Rattle.gl_findings.specs.Laws.{IsToldBy, AreOneFinding, NoneIsMissed, EachIsCycle, NoneIsTwice}
 use Rattle.gl_findings.proofs.Cutting.{classes_told, All-left, All-right}
 use Rattle.gl_findings.proofs.LeastTurns.{IsTurnOf, turn_tells, turn_from, turn_and_back, told, told_once, length-turned}

@@ -4,7 +4,7 @@ use Rattle.std.specs.List.{flat_map}
 use Rattle.std.specs.Set.{distinct_count}
 use Rattle.gl_edges.specs.declared.edge.Edge.{Edge}
 use Rattle.gl_edges.specs.declared.edge.Sample.{Sample}
-use Rattle.gl_findings.specs.Findings.{same_places}
+use Rattle.gl_grounds.specs.Classes.{same_places}
 use Rattle.gl_findings.specs.declared.counts.ClassCounts.{ClassCounts}
 
 -- the edges of an edge's class

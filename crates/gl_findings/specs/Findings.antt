@@ -1,7 +1,7 @@
 -- Findings: of all cycles what a reader has to look at. Cycles of one signature, which is where their edges were made, are one finding.
 -- The word is that of deadlock signatures: Jula, Tralamazza, Zamfir and Candea, Deadlock Immunity, OSDI 2008.
-use Rattle.std.specs.Prelude.{ℕ, Bool, ◌&&◌, ◌==◌, nat_eq, List, ◌++◌, length, map, filter, take, drop, slice_get}
-use Rattle.std.specs.List.{filter_map, flat_map, list_all, list_any, position_or_len, range_with_len}
+use Rattle.std.specs.Prelude.{ℕ, Bool, nat_eq, List, ◌++◌, length, filter, take, drop, slice_get}
+use Rattle.std.specs.List.{filter_map, flat_map, list_all, list_any, range_with_len}
 use Rattle.std.specs.Cmp.Lexicographic.{pointwise, slice_cmp}
 use Rattle.std.specs.Ordering.{nat_cmp, is_le}
 use Rattle.gl_event.specs.declared.events.Segment.{Segment}
@@ -10,17 +10,7 @@ use Rattle.gl_edges.specs.declared.edge.Sample.{Sample}
 use Rattle.gl_filters.specs.declared.query.Mode.{Mode}
 use Rattle.gl_filters.specs.Picked.{edges_of_table}
 use Rattle.gl_cycles.specs.AllCycles.{all_cycles, lists_below}
-
--- two edges were made at the same pair of places: where the held lock was acquired, and where the wanted one is asked for
-abbrev pub same_places : Edge × Sample → Edge × Sample → Bool
-same_places a b = (a.1.held_loc == b.1.held_loc) && (a.1.wanted_loc == b.1.wanted_loc)
-
--- the class of an edge: the position of the first edge that was made at the same places
-abbrev pub class_of : List (Edge × Sample) → Edge × Sample → ℕ
-class_of table pair = position_or_len (same_places pair) table
-
-abbrev pub classes_of : List (Edge × Sample) → List ℕ
-classes_of table = map (class_of table) table
+use Rattle.gl_grounds.specs.Classes.{classes_of}
 
 -- the signature of a cycle: the classes of its edges
 abbrev pub signature_of : List (Edge × Sample) → List ℕ → List ℕ

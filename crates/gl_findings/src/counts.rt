@@ -4,13 +4,12 @@ ghost use Rattle.std.specs.HashSet.{contains};
 ghost use Rattle.gl_edges.specs.declared.edge.Edge.{Edge};
 ghost use Rattle.gl_edges.specs.declared.edge.Sample.{Sample};
 ghost use Rattle.gl_findings.specs.Counts.{counts_of};
-ghost use Rattle.gl_findings.specs.Findings.{classes_of};
-ghost use Rattle.gl_findings.specs.bodies.Classing.{are_places};
+ghost use Rattle.gl_grounds.specs.Classes.{classes_of, are_places};
 ghost use Rattle.gl_findings.specs.bodies.Tallies.{AreCounted, IsTally, locks_of, noted_by, threads_of};
 
-use crate::classes::classes_of;
 use gl_edges::{Edge, Sample};
 use gl_event::Memory;
+use gl_grounds::classes_of;
 use std::alloc::Global;
 use std::collections::HashSet;
 

@@ -14,13 +14,13 @@ ghost use Rattle.gl_findings.specs.Listed.{listed_findings};
 ghost use Rattle.gl_findings.specs.bodies.Grouping.{AreFirsts, is_told};
 ghost use Rattle.gl_findings.specs.declared.grouped.TheConstants.{MANY};
 
-use crate::classes::classes_of;
 use crate::turns::{Signature, begins_least, turned};
 use arrayvec::ArrayVec;
 use gl_cycles::{Found, search, search_parallel};
 use gl_edges::EdgeList;
 use gl_event::Memory;
 use gl_filters::Query;
+use gl_grounds::classes_of;
 use gl_segments::Order;
 use std::alloc::Global;
 use std::cmp::Ordering;

@@ -9,28 +9,20 @@
 //! docs/GLOSSARY.md has its words beside those of the field.
 #![tactic(auto)]
 
-mod classes;
 mod counts;
 mod finder;
-mod grounds;
 mod grouped;
 mod laws;
 mod lengths;
 mod listing;
-mod models;
 mod parallel;
-mod passages;
 mod reaching;
 mod reports;
 mod roots;
-mod runners;
 mod search;
 mod shown;
-mod spans;
-mod starts;
 mod turns;
 
-pub use classes::classes_of;
 pub use counts::{ClassCounts, class_counts};
 pub use laws::{findings_are_cycles, findings_differ, listings_are_unique, no_finding_is_missed};
 pub use listing::{Contents, Listing};

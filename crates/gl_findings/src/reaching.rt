@@ -3,15 +3,15 @@ ghost use Rattle.std.specs.Prelude.{◌≡◌, ◌<◌, ◌≤◌, ◌∷◌, []
 ghost use Rattle.gl_edges.specs.declared.edge.Edge.{Edge};
 ghost use Rattle.gl_filters.specs.Picked.{edges_of_table};
 ghost use Rattle.gl_filters.specs.declared.steps.Stop.TheVariants.{Memory};
-ghost use Rattle.gl_findings.specs.Findings.{classes_of};
+ghost use Rattle.gl_grounds.specs.Classes.{classes_of};
 ghost use Rattle.gl_findings.specs.bodies.Finding.{AreReachedBy, HasSpans, IsReady, IsUnbound, block_of};
-ghost use Rattle.gl_findings.specs.bodies.Spanning.{AreInOrder, GoesOn, GoesOnAt, GoesWithAt, KeepSpans};
+ghost use Rattle.gl_grounds.specs.Spanning.{AreInOrder, GoesOn, GoesOnAt, GoesWithAt, KeepSpans};
 
 use crate::finder::Finder;
-use crate::spans::{Span, Spans};
 use gl_edges::Edge;
 use gl_event::Memory;
 use gl_filters::{Stop, kinds_go_together, spend_step};
+use gl_grounds::{Span, Spans};
 use std::alloc::Global;
 
 // How many edges are looked at for the spans of one front at most.

@@ -6,13 +6,12 @@ ghost use Rattle.gl_edges.specs.declared.edge.Sample.{Sample};
 ghost use Rattle.gl_segments.specs.Clocks.{is_before};
 ghost use Rattle.gl_cycles.specs.Listed.{listed_cycles};
 ghost use Rattle.gl_filters.specs.Picked.{edges_of_table};
-ghost use Rattle.gl_findings.specs.Findings.{classes_of};
+ghost use Rattle.gl_grounds.specs.Classes.{classes_of};
 ghost use Rattle.gl_findings.specs.Listed.{listed_findings};
 ghost use Rattle.gl_findings.specs.bodies.Lengths.{AreLongest};
-ghost use Rattle.gl_findings.specs.bodies.Told.{AreGrounds};
+ghost use Rattle.gl_grounds.specs.Grounds.{AreGrounds};
 
 use crate::finder::Finder;
-use crate::grounds::Grounds;
 use crate::grouped::{findings_of_cycles, findings_of_cycles_parallel};
 use crate::lengths::longest_of;
 use crate::parallel::first_findings;
@@ -20,6 +19,7 @@ use gl_cycles::{Found, edges_sought, edges_sought_parallel, first_steps, search,
 use gl_edges::EdgeList;
 use gl_event::Memory;
 use gl_filters::Query;
+use gl_grounds::Grounds;
 use gl_pruning::{Sought, kept_at_first, limits_by_edge, shortened};
 use gl_segments::Order;
 use std::alloc::Global;

@@ -7,7 +7,8 @@ ghost use Rattle.gl_filters.specs.declared.steps.Stop.TheVariants.{Memory};
 ghost use Rattle.gl_cycles.specs.Cycles.{cycles_in};
 ghost use Rattle.gl_sought.specs.OffCycles.{KeepsCycles};
 ghost use Rattle.gl_filters.specs.declared.lengths.TheConstants.{LONGEST};
-ghost use Rattle.gl_findings.specs.Findings.{classes_of, first_with};
+ghost use Rattle.gl_grounds.specs.Classes.{classes_of};
+ghost use Rattle.gl_findings.specs.Findings.{first_with};
 ghost use Rattle.gl_findings.specs.bodies.Lesser.{lesser};
 
 use crate::turns::turned;

@@ -7,16 +7,16 @@ use Rattle.gl_index.specs.declared.sides.Side.TheVariants.{Leader}
 use Rattle.gl_sought.specs.OffCycles.{KeepsCycles}
 use Rattle.gl_filters.specs.declared.lengths.TheConstants.{LONGEST}
 use Rattle.gl_walks.specs.declared.walker.Walker.{Walker}
-use Rattle.gl_findings.specs.Findings.{classes_of}
-use Rattle.gl_findings.specs.bodies.Grounds.{AreModels, IsNextClass}
-use Rattle.gl_findings.specs.bodies.Running.{AreRunners}
-use Rattle.gl_findings.specs.bodies.Passing.{ArePassages}
-use Rattle.gl_findings.specs.bodies.Spanning.{AreReached, HaveSpans}
+use Rattle.gl_grounds.specs.Classes.{classes_of}
+use Rattle.gl_grounds.specs.Models.{AreModels, IsNextClass}
+use Rattle.gl_grounds.specs.Running.{AreRunners}
+use Rattle.gl_grounds.specs.Passing.{ArePassages}
+use Rattle.gl_grounds.specs.Spanning.{AreReached, HaveSpans}
 use Rattle.gl_findings.specs.bodies.Lengths.{AreLongest}
 use Rattle.gl_findings.specs.bodies.Growing.{finding, block, blocks_below}
 use Rattle.gl_findings.specs.declared.finder.Finder.{Finder}
 use Rattle.gl_findings.specs.declared.parallel.ByClass.{ByClass}
-use Rattle.gl_findings.specs.declared.spans.Spans.{Spans}
+use Rattle.gl_grounds.specs.declared.spans.Spans.{Spans}
 
 -- the walker looks over the search's edges
 pub record WalksOver (s : Finder) (walker : Walker) : Type 0 where

@@ -4,8 +4,7 @@ use Rattle.std.specs.List.{flat_map}
 use Rattle.std.specs.Set.{distinct_count, is_member}
 use Rattle.gl_edges.specs.declared.edge.Edge.{Edge}
 use Rattle.gl_edges.specs.declared.edge.Sample.{Sample}
-use Rattle.gl_findings.specs.Findings.{class_of}
-use Rattle.gl_findings.specs.bodies.Classing.{are_places}
+use Rattle.gl_grounds.specs.Classes.{class_of, are_places}
 
 -- the numbers that are noted for a class, where each is noted with a class
 abbrev pub numbers_of : ℕ → List (ℕ × ℕ) → List ℕ

@@ -1,6 +1,6 @@
 use Rattle.std.proofs.Common.{◌<◌, length, ap, ◌∙◌, arith}
 use Rattle.std.proofs.lemmas.List.{length-map}
-use Rattle.gl_findings.specs.Findings.{class_of}
+use Rattle.gl_grounds.specs.Classes.{class_of}
 use Rattle.gl_findings.proofs.ClassNumbers.{class_below, counts_more}
 use Rattle.std.proofs.lemmas.Result.{err_from_is_err_and}
 use Rattle.gl_findings.proofs.counts.counts_by_edge.Goals as goal

@@ -1,8 +1,7 @@
 use Rattle.std.proofs.Common.{[], ◌∷◌, ◌++◌, length, take, get_or, ap, subst, ◌∙◌, arith}
 use Rattle.std.specs.HashSet.{contains}
 use Rattle.std.proofs.lemmas.List.{length-map, length-take-le, length_push, take_all}
-use Rattle.gl_findings.specs.Findings.{class_of}
-use Rattle.gl_findings.specs.bodies.Classing.{are_places}
+use Rattle.gl_grounds.specs.Classes.{class_of, are_places}
 use Rattle.gl_findings.specs.bodies.Tallies.{AreCounted, noted_by, locks_of}
 use Rattle.gl_findings.proofs.ClassNumbers.{class_below, few_noted, locks_noted}
 use Rattle.gl_findings.proofs.Tallied.{tally_few}

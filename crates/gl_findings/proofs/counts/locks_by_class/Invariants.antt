@@ -1,6 +1,6 @@
 use Rattle.std.proofs.Common.{◌≡◌, length, take}
 use Rattle.std.specs.HashSet.{contains}
-use Rattle.gl_findings.specs.bodies.Classing.{are_places}
+use Rattle.gl_grounds.specs.Classes.{are_places}
 use Rattle.gl_findings.specs.bodies.Tallies.{IsTally, noted_by, locks_of}
 use Rattle.gl_findings.proofs.counts.locks_by_class.Given as goal
 

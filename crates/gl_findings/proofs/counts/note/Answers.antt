@@ -1,7 +1,7 @@
 use Rattle.std.proofs.Common.{◌∙◌, sym, ap, Some}
 use Rattle.std.specs.HashSet.{contains}
 use Rattle.std.proofs.lemmas.Option.{slice_get-get_or}
-use Rattle.gl_findings.specs.bodies.Classing.{are_places}
+use Rattle.gl_grounds.specs.Classes.{are_places}
 use Rattle.gl_findings.proofs.Tallied.{tally_new, tally_old, was_known, was_new}
 use Rattle.gl_findings.proofs.counts.note.Goals as goal
 

@@ -4,7 +4,8 @@ use Rattle.gl_filters.specs.Picked.{edges_of_table}
 use Rattle.gl_cycles.specs.AllCycles.{all_cycles}
 use Rattle.gl_cycles.specs.Cycles.{cycles_in}
 use Rattle.gl_cycles.specs.Listed.{listed}
-use Rattle.gl_findings.specs.Findings.{classes_of, findings}
+use Rattle.gl_grounds.specs.Classes.{classes_of}
+use Rattle.gl_findings.specs.Findings.{findings}
 use Rattle.gl_findings.specs.bodies.Grouping.{AreFirsts}
 use Rattle.gl_findings.specs.declared.grouped.TheConstants.{MANY}
 use Rattle.gl_findings.proofs.InOrder.{all_listed, findings_are_firsts}

@@ -1,7 +1,7 @@
 use Rattle.gl_segments.specs.Clocks.{is_before}
 use Rattle.gl_filters.specs.Picked.{edges_of_table}
 use Rattle.gl_pruning.specs.Limits.{AreLimits}
-use Rattle.gl_findings.specs.Findings.{classes_of}
+use Rattle.gl_grounds.specs.Classes.{classes_of}
 use Rattle.gl_findings.specs.bodies.Lengths.{AreGreatest}
 use Rattle.gl_findings.proofs.LongFronts.{longest_from}
 use Rattle.gl_findings.proofs.search.longest_by_class.Goals as goal

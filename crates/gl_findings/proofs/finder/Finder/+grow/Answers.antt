@@ -8,7 +8,7 @@ use Rattle.gl_findings.specs.bodies.Finding.{finding_of}
 use Rattle.gl_findings.proofs.Prepared.{none_open, nothing_more, begin, step, lower, alone, whole, full}
 use Rattle.gl_findings.proofs.Spanned.{spans_on}
 use Rattle.gl_filters.specs.Picked.{edges_of_table}
-use Rattle.gl_findings.specs.Findings.{classes_of}
+use Rattle.gl_grounds.specs.Classes.{classes_of}
 use Rattle.gl_findings.proofs.finder.Finder.+grow.Goals as goal
 
 -- the signature may not be longer

@@ -1,7 +1,7 @@
 use Rattle.std.proofs.Common.{Bool, sym, subst}
 use Rattle.gl_filters.specs.Picked.{edges_of_table}
-use Rattle.gl_findings.specs.Findings.{classes_of}
-use Rattle.gl_findings.specs.bodies.Spanning.{GoesOn}
+use Rattle.gl_grounds.specs.Classes.{classes_of}
+use Rattle.gl_grounds.specs.Spanning.{GoesOn}
 use Rattle.gl_findings.proofs.finder.Finder.add_after.Goals as goal
 
 pub returns-then-is_last-clause-added : goal.returns-then-is_last-clause-added

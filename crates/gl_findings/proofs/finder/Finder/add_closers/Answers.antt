@@ -3,9 +3,9 @@ use Rattle.std.proofs.lemmas.List.{length-map}
 use Rattle.gl_filters.specs.Picked.{edges_of_table}
 use Rattle.gl_index.specs.Indexes.{both_locks}
 use Rattle.gl_index.proofs.Lists.{element_at, fewer_left}
-use Rattle.gl_findings.specs.Findings.{classes_of}
-use Rattle.gl_findings.specs.bodies.Spanning.{GoesOnAt}
-use Rattle.gl_findings.proofs.SpanSteps.{goes_on_all, goes_on_still, keep_on, keep_same, passed_more, passed_none, tells_both}
+use Rattle.gl_grounds.specs.Classes.{classes_of}
+use Rattle.gl_grounds.specs.Spanning.{GoesOnAt}
+use Rattle.gl_grounds.proofs.SpanSteps.{goes_on_all, goes_on_still, keep_on, keep_same, passed_more, passed_none, tells_both}
 use Rattle.gl_findings.proofs.finder.Finder.add_closers.Goals as goal
 
 pub loop-next-init : goal.loop-next-init

@@ -2,9 +2,9 @@ use Rattle.std.proofs.Common.{◌-◌, true, length}
 use Rattle.std.specs.Prelude.{unwrap_or}
 use Rattle.gl_filters.specs.Picked.{edges_of_table}
 use Rattle.gl_index.specs.Indexes.{both_locks}
-use Rattle.gl_findings.specs.Findings.{classes_of}
-use Rattle.gl_findings.specs.bodies.Spanning.{GoesOnAt, KeepSpans}
-use Rattle.gl_findings.proofs.SpanSteps.{ArePassed}
+use Rattle.gl_grounds.specs.Classes.{classes_of}
+use Rattle.gl_grounds.specs.Spanning.{GoesOnAt, KeepSpans}
+use Rattle.gl_grounds.proofs.SpanSteps.{ArePassed}
 use Rattle.gl_findings.proofs.finder.Finder.add_closers.Given as goal
 
 -- chains that go on with one of those so far have their spans, and none is lost

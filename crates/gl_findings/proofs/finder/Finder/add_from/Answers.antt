@@ -1,6 +1,6 @@
 use Rattle.std.proofs.Common.{[]}
 use Rattle.gl_filters.specs.Picked.{edges_of_table}
-use Rattle.gl_findings.specs.Findings.{classes_of}
+use Rattle.gl_grounds.specs.Classes.{classes_of}
 use Rattle.gl_findings.proofs.Spanned.{spans_on}
 use Rattle.gl_findings.proofs.finder.Finder.add_from.Goals as goal
 

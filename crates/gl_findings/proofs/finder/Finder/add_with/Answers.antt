@@ -4,8 +4,8 @@ use Rattle.std.proofs.lemmas.Bool.{false≢true}
 use Rattle.std.proofs.lemmas.Option.{get_or_from_slice_get}
 use Rattle.gl_edges.specs.declared.edge.Edge.{Edge}
 use Rattle.gl_sought.proofs.Places.{edge_is}
-use Rattle.gl_findings.specs.Findings.{classes_of}
-use Rattle.gl_findings.specs.bodies.Spanning.{goes_on, longer_span}
+use Rattle.gl_grounds.specs.Classes.{classes_of}
+use Rattle.gl_grounds.specs.Spanning.{goes_on, longer_span}
 use Rattle.gl_findings.proofs.finder.Finder.add_with.Goals as goal
 
 pub returns-then-not-goes_on-clause-added : goal.returns-then-not-goes_on-clause-added

@@ -1,4 +1,4 @@
-use Rattle.gl_findings.specs.bodies.Spanning.{span_of}
+use Rattle.gl_grounds.specs.Spanning.{span_of}
 use Rattle.gl_findings.proofs.Prepared.{next_at, skipped}
 use Rattle.gl_findings.proofs.Spanned.{none_on}
 use Rattle.gl_findings.proofs.finder.Finder.next_class.Goals as goal

@@ -2,8 +2,8 @@ use Rattle.std.proofs.Common.{◌≡◌, ◌+◌, ◌<◌, eqb, length, sym, sub
 use Rattle.std.proofs.lemmas.Bool.{eqb-true}
 use Rattle.std.proofs.lemmas.List.{get_or_default}
 use Rattle.gl_filters.specs.Picked.{edges_of_table}
-use Rattle.gl_findings.specs.Findings.{classes_of}
-use Rattle.gl_findings.proofs.SpanSteps.{AreFollowed, followed_more}
+use Rattle.gl_grounds.specs.Classes.{classes_of}
+use Rattle.gl_grounds.proofs.SpanSteps.{AreFollowed, followed_more}
 use Rattle.gl_findings.proofs.Spanned.{all_reached}
 use Rattle.gl_findings.proofs.finder.Finder.reached.Goals as goal
 

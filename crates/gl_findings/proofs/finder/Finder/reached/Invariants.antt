@@ -1,6 +1,6 @@
 use Rattle.gl_filters.specs.Picked.{edges_of_table}
-use Rattle.gl_findings.specs.Findings.{classes_of}
-use Rattle.gl_findings.proofs.SpanSteps.{AreFollowed}
+use Rattle.gl_grounds.specs.Classes.{classes_of}
+use Rattle.gl_grounds.proofs.SpanSteps.{AreFollowed}
 use Rattle.gl_findings.proofs.finder.Finder.reached.Given as goal
 
 -- chains that go on from one of the spans so far have their own

@@ -1,0 +1,7 @@
+use Rattle.std.proofs.Common.{nat_le, rules}
+use Rattle.std.proofs.lemmas.List.Sorted.{IsPartitionPoint-from_clause, IsPartitionedBy-leb}
+use Rattle.gl_grounds.proofs.spans.count_through.Goals as goal
+
+pub returns-clause-parted : goal.returns-clause-parted
+returns-clause-parted c =
+    IsPartitionPoint-from_clause (λ span. nat_le span.class c.args.class) _ _ c.partition_point.ensures.partitioned (IsPartitionedBy-leb (λ span. span.class) _ c.args.class c.requires) (λ a r q k. search rules)
