@@ -10,9 +10,12 @@ use crate::receipt::Receipt;
 use gl_event::{Event, Limits, Note, Refusal, ThreadId};
 use gl_lane::OwnLaneIn;
 use gl_recorder::Taker;
-use gl_shards::pause;
+use gl_shards::{pause, pause_without_yielding};
 use std::marker::Model;
 use std::sync::Wait;
+
+// A lane of so many notes or more is long: a collector that comes to it takes longer to empty it than to spin.
+const LONG: u32 = 128;
 
 /// Why an event wasn't recorded.
 #[derive(Clone, Copy, Debug, PartialEq, Eq)]
@@ -150,11 +153,23 @@ impl Recorder {
             match self.try_record(&event) {
                 Ok(place) => return Ok(place),
                 Err(RecordFault::Refused(refusal)) => return Err(refusal),
-                Err(RecordFault::Full(_)) => pause(rt, looks),
+                Err(RecordFault::Full(_)) => self.wait_for_room(rt, looks),
             }
             looks = looks.saturating_add(1);
         }
         unreachable!()
+    }
+
+    /// Waits a little, after so many looks for room in the lane in vain. It takes no memory.
+    ///
+    /// It spins at first. Then it sleeps for as short as the system can where the lane is long, so that the
+    /// collector empties it meanwhile, and else lets others run and sleeps later on.
+    pub fn wait_for_room<R: Wait>(&self, rt: &R, looks: u32) {
+        if self.limits.ring() < LONG {
+            pause(rt, looks);
+            return;
+        }
+        pause_without_yielding(rt, looks);
     }
 
     /// Ends the recording: pushes the thread's end mark and answers the receipt. Err where the lane is

@@ -15,7 +15,6 @@ use gl_engine::{CloseFault, Collector, Receipt, Recorder};
 use gl_event::{Event, Memory, ThreadId};
 use std::snapshot::Snapshot;
 use std::sync::Wait;
-use std::thread;
 use std::thread::{Promise, PromisedHandle, Scope, Threads};
 
 /// The recorders that one running thread has, with room for their receipts.
@@ -60,13 +59,15 @@ pub fn close_wait<R: Wait>(rt: &R, recorder: Recorder) -> Option<Receipt>
     ensures all { IfSome result (λ receipt. recorded_whole receipt ≡ recorded recorder) }
 {
     let mut recorder = recorder;
+    let mut looks: u32 = 0;
     for _ in rt.forever() {
         match recorder.close() {
             Ok(receipt) => return Some(receipt),
             Err(CloseFault::Unconfirmed { .. }) => return None,
             Err(CloseFault::Full(back)) => recorder = back,
         }
-        thread::yield_now();
+        recorder.wait_for_room(rt, looks);
+        looks = looks.saturating_add(1);
     }
     unreachable!()
 }

@@ -49,5 +49,5 @@ pub use laws::{
 };
 pub use merging::merge;
 pub use shard::{MAX_SHARDS, limits_in_numbers, shard_of};
-pub use waiting::pause;
+pub use waiting::{pause, pause_without_yielding};
 pub use worker::{Gate, Open, ServeFault, Served, serve};

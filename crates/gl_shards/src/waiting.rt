@@ -13,6 +13,9 @@ const YIELDS: u32 = 64;
 // How long a sleep is, in microseconds. The system adds about 50 of its own.
 const NAP: u64 = 20;
 
+// How long one is that follows the spinning at once.
+const SHORTEST_NAP: u64 = 1;
+
 // How often a thread looks again before it asks to be woken.
 pub(crate) const LOOKS: u32 = 1_000;
 
@@ -21,14 +24,37 @@ pub(crate) const LOOKS: u32 = 1_000;
 /// makes no call of the system.
 pub fn pause<R: Wait>(rt: &R, looks: u32) {
     if looks >= YIELDS {
-        AtomicU64::new(0).park_timeout(rt, 0, Duration::from_micros(NAP));
+        sleep(rt, NAP);
         return;
     }
     if looks >= SPINS {
         thread::yield_now();
         return;
     }
-    for _ in 0..1u32 << looks {
+    spin(looks);
+}
+
+/// The same, but that it sleeps where [`pause`] lets others run, for as short as the system can. It is for who can
+/// wait for so long without holding up others, as one whose lane holds many notes.
+///
+/// Where other programs keep all processors busy, a thread that lets others run waits for their turns, of
+/// milliseconds each, and one that slept runs at once.
+pub fn pause_without_yielding<R: Wait>(rt: &R, looks: u32) {
+    if looks >= SPINS {
+        sleep(rt, SHORTEST_NAP);
+        return;
+    }
+    spin(looks);
+}
+
+// Sleeps for so many microseconds. It is a wait for a number that nobody changes.
+fn sleep<R: Wait>(rt: &R, microseconds: u64) {
+    AtomicU64::new(0).park_timeout(rt, 0, Duration::from_micros(microseconds));
+}
+
+// Spins, the longer the more looks there were.
+fn spin(looks: u32) {
+    for _ in 0..1u32.wrapping_shl(looks) {
         hint::spin_loop();
     }
 }
