@@ -1,10 +1,8 @@
 """Turns the files of recorded processes (layout.h) into traces. The events are read by goodlock_lines (convert/lines.c);
 here are the tables and the names."""
 
-import bisect
 import errno
 import hashlib
-import itertools
 import mmap
 import os
 import re
@@ -15,6 +13,7 @@ from collections import Counter
 
 from births import threads_by_birth
 from build import built
+from loaded import Modules
 from recording import living_thread
 from symbols import Module, demangled, is_wrapper_source, short_function, short_paths, short_variable
 
@@ -103,57 +102,6 @@ class Thread:
         self.kinds = NO_KINDS
         self.name = None
         self.routine_name = None  # that its recorder told
-
-
-class LoadedModule:
-    def __init__(self, values, module, since):
-        self.bias, self.start, self.end = values
-        self.module = module
-        self.since = since  # counts the loads and unloads of modules before it
-        self.until = None
-
-
-class Modules:
-    """The modules of a process, by address and by when they were there."""
-
-    def __init__(self):
-        self.loaded = []
-        self.when = 0
-        self.borders = None
-        self.names = None
-
-    def load(self, values, module):
-        self.loaded.append(LoadedModule(values, module, self.when))
-        self.when += 1
-
-    def unload(self, start):
-        for loaded in self.loaded:
-            if loaded.start == start and loaded.until is None:
-                loaded.until = self.when
-        self.when += 1
-
-    def at(self, address, when):
-        """The module that an address lay in when so many loads and unloads had been told; a module may be told of only after
-        the first lock in it."""
-        if self.borders is None:
-            self.borders = sorted({m.start for m in self.loaded} | {m.end for m in self.loaded})
-            self.parts = [[m for m in self.loaded if m.start <= border < m.end] for border in self.borders]
-            self.since = [[m.since for m in part] for part in self.parts]
-        place = bisect.bisect_right(self.borders, address) - 1
-        if place < 0:
-            return None
-        there = self.parts[place]
-        later = bisect.bisect_left(self.since[place], when)
-        for loaded in itertools.islice(reversed(there), len(there) - later, None):
-            if loaded.until is None or when <= loaded.until:
-                return loaded
-        return there[later] if later < len(there) else None
-
-    def name_of(self, module):
-        """That of its file, with as many directories as tell it from others of the process."""
-        if self.names is None:
-            self.names = short_paths({loaded.module.path for loaded in self.loaded})
-        return os.fsencode(self.names[module.path] or "?").decode("utf-8", "backslashreplace")
 
 
 class Process:
