@@ -1,15 +1,19 @@
 """Names of addresses: symbols and source lines of the modules (program and libraries) of a process."""
 
 import bisect
+import itertools
 import os
 import re
 import struct
+import zlib
 
 from tool import run_tool
 
 STT_OBJECT, STT_FUNC, STT_TLS = 1, 2, 6
 SHT_SYMTAB, SHT_NOTE, SHT_DYNSYM = 2, 7, 11
 NT_GNU_BUILD_ID = 3
+DEBUG_LINK = b".gnu_debuglink\0"
+DEBUG_FILES = "/usr/lib/debug"
 
 # Sources of the C++ library: what is inlined from them isn't the program's own line.
 WRAPPER_SOURCE = re.compile(r"/c\+\+/(v1|\d+(\.\d+)*)/|libstdc\+\+-v3/|/gthr-[a-z]+\.h$")
@@ -72,6 +76,37 @@ def build_id(data, sections):
         if note == NT_GNU_BUILD_ID and data[place + 12 : place + 16] == b"GNU\0":
             return data[place + 16 : place + 16 + size].hex()
     return None
+
+
+def debug_link(data, sections):
+    """The name and the checksum of the file into which this one's symbols were put, where that is told; else None."""
+    headers, count = struct.unpack_from("=Q", data, 40)[0], len(sections)
+    texts = struct.unpack_from("=H", data, 62)[0]  # the section with the sections' names
+    if texts >= count:
+        return None
+    _, start, size, _ = sections[texts]
+    text = data[start : start + size]
+    for number, (_, place, length, _) in enumerate(sections):
+        if text.startswith(DEBUG_LINK, struct.unpack_from("=I", data, headers + 64 * number)[0]):
+            told = data[place : place + length]
+            name = told.split(b"\0", 1)[0]
+            checksum = told[len(name) // 4 * 4 + 4 :][:4]
+            return (os.fsdecode(name), struct.unpack("=I", checksum)[0]) if name and len(checksum) == 4 else None
+    return None
+
+
+def file_symbols(path, checksum):
+    """The symbols of a separate debug file; [] where it isn't there, or has another checksum than this one, if there is one."""
+    try:
+        if not os.path.isfile(path):
+            return []
+        with open(path, "rb") as file:
+            data = file.read()
+    except (OSError, ValueError):
+        return []
+    if checksum is not None and zlib.crc32(data) != checksum:
+        return []
+    return read_symbols(data, read_sections(data), SHT_SYMTAB)
 
 
 # What c++filt has answered already: a report so far asks for the same names again.
@@ -140,22 +175,24 @@ class Module:
             sections = read_sections(data)
             symbols = read_symbols(data, sections, SHT_SYMTAB)
             if not symbols:
-                symbols = self.debug_symbols(build_id(data, sections)) or read_symbols(data, sections, SHT_DYNSYM)
+                symbols = self.debug_symbols(data, sections) or read_symbols(data, sections, SHT_DYNSYM)
         except (OSError, struct.error, ValueError):
             symbols = []
         self.symbols = sorted((s for s in symbols if s.name), key=lambda s: (s.start, -s.size, s.name))
         self.starts = [s.start for s in self.symbols]
 
-    def debug_symbols(self, identity):
-        if not identity:
-            return []
-        path = "/usr/lib/debug/.build-id/%s/%s.debug" % (identity[:2], identity[2:])
-        try:
-            with open(path, "rb") as file:
-                data = file.read()
-        except OSError:
-            return []
-        return read_symbols(data, read_sections(data), SHT_SYMTAB)
+    def debug_symbols(self, data, sections):
+        """Those of its separate debug file, which is found as gdb finds it: by the file's build, or by the name that it tells."""
+        identity, link = build_id(data, sections), debug_link(data, sections)
+        files = []
+        if identity:
+            files.append(("%s/.build-id/%s/%s.debug" % (DEBUG_FILES, identity[:2], identity[2:]), None))
+        if link:
+            name, checksum = link
+            folder = os.path.dirname(os.path.realpath(self.path))
+            for place in (folder, folder + "/.debug", DEBUG_FILES + folder):
+                files.append((os.path.join(place, name), checksum))
+        return next(filter(None, itertools.starmap(file_symbols, files)), [])
 
     def symbol_at(self, address):
         """The symbol that an address lies in, or None. Of several that begin alike, the first by name."""

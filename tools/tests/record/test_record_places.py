@@ -4,10 +4,15 @@ import os
 import re
 import signal
 import subprocess
+import sys
 
+import pytest
 from c_programs import Run
 from c_traces import PAIR, known, record
-from known_traces import compare
+from known_traces import TOOLS, compare
+
+sys.path.insert(0, os.path.join(TOOLS, "record"))
+import symbols  # noqa: E402
 
 
 def test_more_callers():
@@ -74,3 +79,49 @@ def test_files_whose_names_are_no_text():
     live = Run([program, "leaves_at_once"], ["--live"], trace=os.path.join(folder, "r.txt"))
     assert live.status == 5, live.said
     assert live.lines() == ["cycles: 0"], live.said
+
+
+def split_off(program, file):
+    """Puts the symbols and lines of a program like `locks` into a file of this name, which the program then names. The number of its
+    build, by which such a file is looked for, too, is taken away."""
+    for arguments in (
+        ["objcopy", "--remove-section=.note.gnu.build-id", "locks", program],
+        ["objcopy", "--only-keep-debug", program, file],
+        ["objcopy", "--strip-all", "--add-gnu-debuglink=" + file, program],
+    ):
+        subprocess.run(arguments, check=True)
+
+
+@pytest.mark.parametrize("place", [".", ".debug"])
+def test_debug_file_that_the_program_names(place):
+    """Locks have their names, and places their lines."""
+    split_off("split", "other.name")
+    os.makedirs(place, exist_ok=True)
+    os.replace("other.name", os.path.join(place, "other.name"))
+    run = record("./split", "leaves_at_once")
+    assert run.status == 5, run.said
+    compare(run.lines(), known(PAIR))
+
+
+def test_debug_file_of_another_build():
+    """It has the right name, and another checksum."""
+    split_off("split", "other.name")
+    with open("other.name", "ab") as file:
+        file.write(b"more")
+    run = record("./split", "leaves_at_once")
+    assert run.status == 5, run.said
+    shape = r"main\|(acq|rel)\(split\+0x[0-9a-f]+\)\|split\+0x[0-9a-f]+"
+    assert len(run.lines()) == 2 and all(re.fullmatch(shape, line) for line in run.lines()), run.lines()
+
+
+def test_debug_file_below_the_folder_of_all(monkeypatch, tmp_path):
+    """It lies there in a folder of the same path as the program's."""
+    split_off("split", "other.name")
+    everywhere = tmp_path / "everywhere"
+    os.makedirs(f"{everywhere}{tmp_path}")
+    os.replace("other.name", f"{everywhere}{tmp_path}/other.name")
+    monkeypatch.setattr(symbols, "DEBUG_FILES", str(everywhere))
+    listed = subprocess.run(["nm", "locks"], stdout=subprocess.PIPE, text=True, check=True).stdout
+    place = int(re.search(r"^([0-9a-f]+) b a$", listed, re.M).group(1), 16)
+    found = symbols.Module(str(tmp_path / "split")).symbol_at(place)
+    assert found and found.name == "a", found
