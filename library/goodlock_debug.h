@@ -78,6 +78,17 @@ extern "C" {
 #define GOODLOCK_DEBUG_SHARED_ __attribute__((weak, visibility("default")))
 #define GOODLOCK_DEBUG_IS_STRICT_ (GOODLOCK_DEBUG + 0 > 1)
 
+/* A cast, one that takes the bytes for another type's, and a null pointer, as C and C++ each have them. */
+#ifdef __cplusplus
+#define GOODLOCK_DEBUG_AS_(type, value) static_cast<type>(value)
+#define GOODLOCK_DEBUG_POINTER_AS_(type, value) reinterpret_cast<type>(value)
+#define GOODLOCK_DEBUG_NULL_ nullptr
+#else
+#define GOODLOCK_DEBUG_AS_(type, value) ((type)(value))
+#define GOODLOCK_DEBUG_POINTER_AS_(type, value) ((type)(value))
+#define GOODLOCK_DEBUG_NULL_ NULL
+#endif
+
 enum {
     GOODLOCK_DEBUG_BUCKETS_ = 4096,
     GOODLOCK_DEBUG_REMEMBERED_ = 1024, /* lanes and reports that were given back */
@@ -165,7 +176,7 @@ static inline __attribute__((noreturn, format(printf, 3, 4))) void
 goodlock_debug_tell_(const char *call, const char *promise, const char *format, ...)
 {
     char happened[GOODLOCK_DEBUG_LINE_ / 2], line[GOODLOCK_DEBUG_LINE_];
-    void *teller = NULL, *const own = (void *)&goodlock_debug_inside_;
+    void *teller = GOODLOCK_DEBUG_NULL_, *const own = &goodlock_debug_inside_;
     va_list words;
     if (__atomic_compare_exchange_n(&goodlock_debug_all_.teller, &teller, own, 0, __ATOMIC_ACQ_REL, __ATOMIC_ACQUIRE)) {
         va_start(words, format);
@@ -193,7 +204,8 @@ static inline const char *goodlock_debug_words_(const struct goodlock_debug_entr
     if (entry->kind == GOODLOCK_DEBUG_SESSION_)
         snprintf(words, GOODLOCK_DEBUG_WORDS_, "session %llu", number);
     else if (entry->kind == GOODLOCK_DEBUG_LANE_)
-        snprintf(words, GOODLOCK_DEBUG_WORDS_, "lane %lu of session %llu", (unsigned long)entry->thread, number);
+        snprintf(words, GOODLOCK_DEBUG_WORDS_, "lane %lu of session %llu",
+                 GOODLOCK_DEBUG_AS_(unsigned long, entry->thread), number);
     else
         snprintf(words, GOODLOCK_DEBUG_WORDS_, "a report of session %llu", number);
     return words;
@@ -214,13 +226,13 @@ static inline void goodlock_debug_unlock_(void)
 
 static inline struct goodlock_debug_entry_ **goodlock_debug_bucket_(const void *at)
 {
-    return &goodlock_debug_all_.buckets[((uintptr_t)at >> 4) % GOODLOCK_DEBUG_BUCKETS_];
+    return &goodlock_debug_all_.buckets[(GOODLOCK_DEBUG_POINTER_AS_(uintptr_t, at) >> 4) % GOODLOCK_DEBUG_BUCKETS_];
 }
 
 static inline struct goodlock_debug_entry_ *goodlock_debug_find_(const void *at)
 {
     struct goodlock_debug_entry_ *entry = *goodlock_debug_bucket_(at);
-    while (entry != NULL && entry->at != at)
+    while (entry && entry->at != at)
         entry = entry->older;
     return entry;
 }
@@ -229,9 +241,9 @@ static inline struct goodlock_debug_entry_ *goodlock_debug_find_(const void *at)
 static inline void goodlock_debug_unlink_(const struct goodlock_debug_entry_ *entry)
 {
     struct goodlock_debug_entry_ **link = goodlock_debug_bucket_(entry->at);
-    while (*link != NULL && *link != entry)
+    while (*link && *link != entry)
         link = &(*link)->older;
-    if (*link != NULL)
+    if (*link)
         *link = entry->older;
 }
 
@@ -239,7 +251,7 @@ static inline void goodlock_debug_unlink_(const struct goodlock_debug_entry_ *en
 static inline struct goodlock_debug_entry_ *goodlock_debug_numbered_(uint64_t number)
 {
     struct goodlock_debug_entry_ *entry = goodlock_debug_all_.numbers[number % GOODLOCK_DEBUG_BUCKETS_];
-    while (entry != NULL && entry->number != number)
+    while (entry && entry->number != number)
         entry = entry->numbered;
     return entry;
 }
@@ -249,10 +261,11 @@ static inline void goodlock_debug_claim_(struct goodlock_debug_call_ *call)
 {
     struct goodlock_debug_entry_ **const bucket = &goodlock_debug_all_.numbers[call->number % GOODLOCK_DEBUG_BUCKETS_];
     struct goodlock_debug_entry_ *const known = goodlock_debug_numbered_(call->number);
-    if (known != NULL && known->is_claimed)
+    if (known && known->is_claimed)
         goodlock_debug_tell_(call->name, "each session of a process has a number of its own",
-                             "number %llu was given to another one", (unsigned long long)call->number);
-    if (known != NULL) {
+                             "number %llu was given to another one",
+                             GOODLOCK_DEBUG_AS_(unsigned long long, call->number));
+    if (known) {
         call->spare = call->made;
         call->made = known;
     } else {
@@ -270,15 +283,15 @@ static inline void goodlock_debug_keep_(struct goodlock_debug_call_ *call, const
     struct goodlock_debug_entry_ *const own = call->made, *const old = goodlock_debug_find_(now);
     const struct goodlock_debug_entry_ *const session = call->handles[0].entry;
     struct goodlock_debug_entry_ **const bucket = goodlock_debug_bucket_(now);
-    call->made = NULL;
-    if (own == NULL)
+    call->made = GOODLOCK_DEBUG_NULL_;
+    if (!own)
         return;
-    if (old != NULL)
+    if (old)
         goodlock_debug_unlink_(old);
     own->at = now;
     own->place = handle->place;
     own->kind = handle->kind;
-    own->number = session == NULL ? call->number : session->number;
+    own->number = session ? session->number : call->number;
     own->thread = call->thread;
     own->turn = ++goodlock_debug_all_.turns;
     own->is_mentioned = call->opens_mentioned;
@@ -293,7 +306,7 @@ static inline void goodlock_debug_give_back_(struct goodlock_debug_call_ *call, 
     entry->given_back = call->name;
     if (entry->kind == GOODLOCK_DEBUG_SESSION_)
         return;
-    if (all->last_back == NULL)
+    if (!all->last_back)
         all->first_back = entry;
     else
         all->last_back->next = entry;
@@ -328,7 +341,7 @@ static inline void goodlock_debug_over_(struct goodlock_debug_call_ *call, const
 static inline void goodlock_debug_given_(struct goodlock_debug_call_ *call, int kind, void *handle)
 {
     struct goodlock_debug_handle_ *const own = &call->handles[call->handle_count++];
-    own->place = (void **)handle;
+    own->place = GOODLOCK_DEBUG_AS_(void **, handle);
     own->kind = kind;
     goodlock_debug_over_(call, goodlock_debug_kind_(kind), handle, sizeof(void *), true);
 }
@@ -337,12 +350,12 @@ static inline void goodlock_debug_given_(struct goodlock_debug_call_ *call, int 
 static inline void goodlock_debug_apart_(const struct goodlock_debug_call_ *call, unsigned own)
 {
     const struct goodlock_debug_span_ *const one = &call->spans[own];
-    const uintptr_t begin = (uintptr_t)one->at, end = begin + one->size;
+    const uintptr_t begin = GOODLOCK_DEBUG_POINTER_AS_(uintptr_t, one->at), end = begin + one->size;
     if (begin == 0)
         goodlock_debug_tell_(call->name, "no pointer that is handed over is null", "`%s` is", one->word);
     for (unsigned i = 0; i < own; i++) {
         const struct goodlock_debug_span_ *const two = &call->spans[i];
-        const uintptr_t at = (uintptr_t)two->at;
+        const uintptr_t at = GOODLOCK_DEBUG_POINTER_AS_(uintptr_t, two->at);
         const bool has_bytes = one->size > 0 && two->size > 0;
         if (has_bytes && (one->is_written || two->is_written) && begin < at + two->size && at < end)
             goodlock_debug_tell_(call->name, "what is written to overlaps with nothing else that is handed over",
@@ -359,9 +372,9 @@ static inline void goodlock_debug_pointers_(const struct goodlock_debug_call_ *c
 /* Checks that the thread is in no call, and the process the one of the first call. */
 static inline void goodlock_debug_where_(const struct goodlock_debug_call_ *call)
 {
-    const long process = (long)getpid();
+    const long process = GOODLOCK_DEBUG_AS_(long, getpid());
     long first = 0;
-    if (goodlock_debug_inside_ != NULL)
+    if (goodlock_debug_inside_)
         goodlock_debug_tell_(call->name, "no call is made within another one, as by a signal handler or an allocator",
                              "this thread is in %s", goodlock_debug_inside_);
     if (__atomic_compare_exchange_n(&goodlock_debug_all_.process, &first, process, 0, __ATOMIC_RELAXED,
@@ -382,19 +395,19 @@ static inline void goodlock_debug_meet_(const struct goodlock_debug_call_ *call,
     char words[GOODLOCK_DEBUG_WORDS_];
     for (unsigned i = 0; i < other->handle_count; i++) {
         const struct goodlock_debug_handle_ *const its = &other->handles[i];
-        const bool is_copy = its->before != NULL && its->before == handle->before;
+        const bool is_copy = its->before && its->before == handle->before;
         if (its->place != handle->place && !is_copy)
             continue;
         snprintf(words, sizeof words, "this %s", goodlock_debug_kind_(handle->kind));
         goodlock_debug_tell_(call->name, "a handle is given to one call at a time", "another thread is in %s with %s",
-                             other->name, its->entry == NULL ? words : goodlock_debug_words_(its->entry, words));
+                             other->name, its->entry ? goodlock_debug_words_(its->entry, words) : words);
     }
 }
 
 static inline void goodlock_debug_alone_(const struct goodlock_debug_call_ *call,
                                          const struct goodlock_debug_handle_ *handle)
 {
-    for (const struct goodlock_debug_call_ *other = goodlock_debug_all_.calls; other != NULL; other = other->after)
+    for (const struct goodlock_debug_call_ *other = goodlock_debug_all_.calls; other; other = other->after)
         goodlock_debug_meet_(call, handle, other);
 }
 
@@ -419,16 +432,16 @@ static inline void goodlock_debug_look_(const struct goodlock_debug_call_ *call,
     char words[GOODLOCK_DEBUG_WORDS_];
     handle->before = __atomic_load_n(handle->place, __ATOMIC_RELAXED);
     goodlock_debug_alone_(call, handle);
-    if (handle->before == NULL)
+    if (!handle->before)
         return;
     entry = goodlock_debug_find_(handle->before);
-    if (entry == NULL || entry->kind != handle->kind)
+    if (!entry || entry->kind != handle->kind)
         goodlock_debug_tell_(call->name, "a handle is all zero until it is opened, and changed by these calls alone",
                              "what this %s holds is of none that is open", goodlock_debug_kind_(handle->kind));
-    if (entry->given_back != NULL)
+    if (entry->given_back)
         goodlock_debug_tell_(call->name, "a handle isn't used after it was given back, nor is a copy of it",
                              "%s was given back by %s", goodlock_debug_words_(entry, words), entry->given_back);
-    if (entry->place != (void *)handle->place)
+    if (entry->place != handle->place)
         goodlock_debug_move_(call, entry, handle->place);
     handle->entry = entry;
 }
@@ -439,14 +452,14 @@ static inline void goodlock_debug_fit_(const struct goodlock_debug_call_ *call)
     const struct goodlock_debug_entry_ *const one = call->handles[0].entry, *const two = call->handles[1].entry,
                                               *session;
     char words[GOODLOCK_DEBUG_WORDS_];
-    if (call->prints && one != NULL && two != NULL && one->number != two->number && !two->is_mentioned)
+    if (call->prints && one && two && one->number != two->number && !two->is_mentioned)
         goodlock_debug_tell_(call->name, "the text of a report is made by its own session",
                              "%s was given to session %llu", goodlock_debug_words_(two, words),
-                             (unsigned long long)one->number);
-    if (!GOODLOCK_DEBUG_IS_STRICT_ || !call->frees_lane || one == NULL || one->is_closed)
+                             GOODLOCK_DEBUG_AS_(unsigned long long, one->number));
+    if (!GOODLOCK_DEBUG_IS_STRICT_ || !call->frees_lane || !one || one->is_closed)
         return;
     session = goodlock_debug_numbered_(one->number);
-    if (session != NULL && session->given_back == NULL)
+    if (session && !session->given_back)
         goodlock_debug_tell_(call->name, "a lane is closed before it is freed", "%s is not",
                              goodlock_debug_words_(one, words));
 }
@@ -461,9 +474,9 @@ static inline bool goodlock_debug_enter_(struct goodlock_debug_call_ *call)
     goodlock_debug_pointers_(call);
     goodlock_debug_inside_ = call->name;
     if (call->opens) {
-        call->made = (struct goodlock_debug_entry_ *)calloc(1, sizeof *call->made);
-        if (call->made == NULL) {
-            goodlock_debug_inside_ = NULL;
+        call->made = GOODLOCK_DEBUG_AS_(struct goodlock_debug_entry_ *, calloc(1, sizeof *call->made));
+        if (!call->made) {
+            goodlock_debug_inside_ = GOODLOCK_DEBUG_NULL_;
             return false;
         }
     }
@@ -471,10 +484,10 @@ static inline bool goodlock_debug_enter_(struct goodlock_debug_call_ *call)
     for (unsigned i = 0; i < call->handle_count; i++)
         goodlock_debug_look_(call, &call->handles[i]);
     goodlock_debug_fit_(call);
-    if (call->opens_session && call->handles[0].before == NULL)
+    if (call->opens_session && !call->handles[0].before)
         goodlock_debug_claim_(call);
     call->after = all->calls;
-    if (call->after != NULL)
+    if (call->after)
         call->after->before = call;
     all->calls = call;
     goodlock_debug_unlock_();
@@ -484,11 +497,11 @@ static inline bool goodlock_debug_enter_(struct goodlock_debug_call_ *call)
 /* The call is over. */
 static inline void goodlock_debug_end_(struct goodlock_debug_call_ *call)
 {
-    if (call->before == NULL)
+    if (!call->before)
         goodlock_debug_all_.calls = call->after;
     else
         call->before->after = call->after;
-    if (call->after != NULL)
+    if (call->after)
         call->after->before = call->before;
 }
 
@@ -496,11 +509,11 @@ static inline void goodlock_debug_end_(struct goodlock_debug_call_ *call)
 static inline void goodlock_debug_done_(struct goodlock_debug_call_ *call, struct goodlock_debug_handle_ *handle)
 {
     void *const now = __atomic_load_n(handle->place, __ATOMIC_RELAXED);
-    if (handle->before == NULL && now != NULL)
+    if (!handle->before && now)
         goodlock_debug_keep_(call, handle, now);
-    if (handle->entry != NULL && now == NULL)
+    if (handle->entry && !now)
         goodlock_debug_give_back_(call, handle->entry);
-    if (handle->entry != NULL && call->has_closed)
+    if (handle->entry && call->has_closed)
         handle->entry->is_closed = true;
 }
 
@@ -511,14 +524,14 @@ static inline void goodlock_debug_leave_(struct goodlock_debug_call_ *call)
     goodlock_debug_end_(call);
     for (unsigned i = 0; i < call->handle_count; i++)
         goodlock_debug_done_(call, &call->handles[i]);
-    if (call->made != NULL && call->made->is_claimed) {
+    if (call->made && call->made->is_claimed) {
         call->made->is_claimed = false;
-        call->made = NULL;
+        call->made = GOODLOCK_DEBUG_NULL_;
     }
     goodlock_debug_unlock_();
     free(call->made);
     free(call->spare);
-    goodlock_debug_inside_ = NULL;
+    goodlock_debug_inside_ = GOODLOCK_DEBUG_NULL_;
 }
 
 /* ---- The end of the program */
@@ -531,12 +544,12 @@ struct goodlock_debug_rest_ {
 /* Counts what of a bucket is open. */
 static inline void goodlock_debug_count_(struct goodlock_debug_rest_ *rest, const struct goodlock_debug_entry_ *entry)
 {
-    for (; entry != NULL; entry = entry->older) {
-        if (entry->given_back != NULL)
+    for (; entry; entry = entry->older) {
+        if (entry->given_back)
             continue;
         rest->open[entry->kind]++;
         rest->unclosed += entry->kind == GOODLOCK_DEBUG_LANE_ && !entry->is_closed;
-        if (rest->first == NULL || entry->turn < rest->first->turn)
+        if (!rest->first || entry->turn < rest->first->turn)
             rest->first = entry;
     }
 }
@@ -548,12 +561,13 @@ static inline void goodlock_debug_last_(void)
     struct goodlock_debug_rest_ rest;
     char words[GOODLOCK_DEBUG_WORDS_];
     memset(&rest, 0, sizeof rest);
-    if (goodlock_debug_inside_ != NULL || __atomic_load_n(&all->process, __ATOMIC_RELAXED) != (long)getpid())
+    if (goodlock_debug_inside_ ||
+        __atomic_load_n(&all->process, __ATOMIC_RELAXED) != GOODLOCK_DEBUG_AS_(long, getpid()))
         return;
     goodlock_debug_lock_();
     for (unsigned i = 0; i < GOODLOCK_DEBUG_BUCKETS_; i++)
         goodlock_debug_count_(&rest, all->buckets[i]);
-    if (rest.first != NULL)
+    if (rest.first)
         goodlock_debug_tell_("the end of the program", "what was opened is given back",
                              "left are sessions: %lu, lanes: %lu (not closed: %lu), reports: %lu; the first is %s",
                              rest.open[GOODLOCK_DEBUG_SESSION_], rest.open[GOODLOCK_DEBUG_LANE_], rest.unclosed,

@@ -83,6 +83,17 @@
 
 /* ---- What ends in an underscore is this file's alone, up to the calls. */
 
+/* A cast, one that takes the bytes for another type's, and a null pointer, as C and C++ each have them. */
+#ifdef __cplusplus
+#define GOODLOCK_NAMES_AS_(type, value) static_cast<type>(value)
+#define GOODLOCK_NAMES_POINTER_AS_(type, value) reinterpret_cast<type>(value)
+#define GOODLOCK_NAMES_NULL_ nullptr
+#else
+#define GOODLOCK_NAMES_AS_(type, value) ((type)(value))
+#define GOODLOCK_NAMES_POINTER_AS_(type, value) ((type)(value))
+#define GOODLOCK_NAMES_NULL_ NULL
+#endif
+
 #define GOODLOCK_NAMES_TEXT_(number) GOODLOCK_NAMES_WORD_(number)
 #define GOODLOCK_NAMES_WORD_(word) #word
 
@@ -150,7 +161,7 @@ static inline uint64_t goodlock_names_hash_(const uint8_t *name, size_t length)
 
 static inline uint8_t *goodlock_names_bytes_(struct goodlock_names_entry_ *name)
 {
-    return (uint8_t *)(name + 1);
+    return GOODLOCK_NAMES_POINTER_AS_(uint8_t *, name + 1);
 }
 
 /* Hangs an entry that others can see to the others. */
@@ -173,7 +184,7 @@ static inline uint32_t goodlock_names_number_(struct goodlock_names_table_ *tabl
     for (;;) {
         uint32_t next = GOODLOCK_NAMES_LOAD_(&table->next); /* before the entry's number */
         const uint32_t own = GOODLOCK_NAMES_LOAD_(&entry->number);
-        struct goodlock_names_entry_ *there = NULL;
+        struct goodlock_names_entry_ *there = GOODLOCK_NAMES_NULL_;
         if (own != GOODLOCK_NAMES_NONE_) {
             *number = own;
             return GOODLOCK_OK;
@@ -209,9 +220,9 @@ static inline bool goodlock_names_is_(struct goodlock_names_entry_ *entry, uint6
 static inline struct goodlock_names_entry_ *goodlock_names_new_(const uint8_t *name, size_t length, uint64_t hash)
 {
     struct goodlock_names_entry_ *const own =
-        (struct goodlock_names_entry_ *)malloc(sizeof *own + length + GOODLOCK_NAMES_SUFFIX_);
-    if (own == NULL)
-        return NULL;
+        GOODLOCK_NAMES_AS_(struct goodlock_names_entry_ *, malloc(sizeof *own + length + GOODLOCK_NAMES_SUFFIX_));
+    if (!own)
+        return GOODLOCK_NAMES_NULL_;
     memset(own, 0, sizeof *own);
     own->name = own;
     own->hash = hash;
@@ -227,21 +238,21 @@ static inline uint32_t goodlock_names_named_(struct goodlock_names_table_ *table
                                              struct goodlock_names_entry_ **entry)
 {
     const uint64_t hash = goodlock_names_hash_(name, length);
-    struct goodlock_names_entry_ *own = NULL;
-    uint32_t at = (uint32_t)(hash >> table->shift), left;
+    struct goodlock_names_entry_ *own = GOODLOCK_NAMES_NULL_;
+    uint32_t at = GOODLOCK_NAMES_AS_(uint32_t, hash >> table->shift), left;
     for (left = table->mask + 1; left > 0; left--, at = (at + 1) & table->mask) {
         struct goodlock_names_entry_ *found = GOODLOCK_NAMES_LOAD_(&table->names[at]);
-        if (found == NULL) {
-            if (own == NULL && GOODLOCK_NAMES_LOAD_(&table->next) == table->most) {
+        if (!found) {
+            if (!own && GOODLOCK_NAMES_LOAD_(&table->next) == table->most) {
                 found = GOODLOCK_NAMES_LOAD_(&table->names[at]); /* it may be what filled the table */
-                if (found == NULL)
+                if (!found)
                     return GOODLOCK_NAMES;
             }
         }
-        if (found == NULL) {
-            if (own == NULL)
+        if (!found) {
+            if (!own)
                 own = goodlock_names_new_(name, length, hash);
-            if (own == NULL)
+            if (!own)
                 return GOODLOCK_MEMORY;
             if (GOODLOCK_NAMES_SWAP_(&table->names[at], &found, own)) {
                 goodlock_names_keep_(table, own);
@@ -250,7 +261,7 @@ static inline uint32_t goodlock_names_named_(struct goodlock_names_table_ *table
             }
         }
         if (goodlock_names_is_(found, hash, name, length)) {
-            if (own != NULL)
+            if (own)
                 free(own);
             *entry = found;
             return GOODLOCK_OK;
@@ -266,20 +277,20 @@ static inline struct goodlock_names_slot_ *goodlock_names_slot_of_(const struct 
                                                                    const void *address, uint32_t probes,
                                                                    bool is_claimed)
 {
-    const uintptr_t own = (uintptr_t)address;
-    uint32_t at = (uint32_t)((own * GOODLOCK_NAMES_MIX_) >> table->shift);
+    const uintptr_t own = GOODLOCK_NAMES_POINTER_AS_(uintptr_t, address);
+    uint32_t at = GOODLOCK_NAMES_AS_(uint32_t, (own * GOODLOCK_NAMES_MIX_) >> table->shift);
     for (; probes > 0; probes--, at = (at + 1) & table->mask) {
         uintptr_t found = GOODLOCK_NAMES_LOAD_(&slots[at].address);
         if (found == own)
             return &slots[at];
         if (found == 0) {
             if (!is_claimed)
-                return NULL;
+                return GOODLOCK_NAMES_NULL_;
             if (GOODLOCK_NAMES_SWAP_(&slots[at].address, &found, own) || found == own)
                 return &slots[at];
         }
     }
-    return NULL;
+    return GOODLOCK_NAMES_NULL_;
 }
 
 /* The entry that the address has now, or NULL. */
@@ -288,7 +299,7 @@ static inline struct goodlock_names_entry_ *goodlock_names_known_(const struct g
                                                                   const void *address, uint32_t probes)
 {
     struct goodlock_names_slot_ *const slot = goodlock_names_slot_of_(table, slots, address, probes, false);
-    return slot == NULL ? NULL : GOODLOCK_NAMES_LOAD_(&slot->entry);
+    return slot ? GOODLOCK_NAMES_LOAD_(&slot->entry) : GOODLOCK_NAMES_NULL_;
 }
 
 /* The entry of a lock at an address that had none: OK, NAMES, MEMORY. All memory is taken before the address has its
@@ -297,18 +308,18 @@ static inline uint32_t goodlock_names_new_at_(struct goodlock_names_table_ *tabl
                                               const uint8_t *name, size_t length, struct goodlock_names_entry_ **entry)
 {
     struct goodlock_names_entry_ *own;
-    struct goodlock_names_slot_ *slot = NULL;
+    struct goodlock_names_slot_ *slot = GOODLOCK_NAMES_NULL_;
     uint32_t code;
     if (GOODLOCK_NAMES_LOAD_(&table->next) == table->most)
         return GOODLOCK_NAMES;
-    own = (struct goodlock_names_entry_ *)calloc(1, sizeof *own);
-    if (own == NULL)
+    own = GOODLOCK_NAMES_AS_(struct goodlock_names_entry_ *, calloc(1, sizeof *own));
+    if (!own)
         return GOODLOCK_MEMORY;
     own->number = GOODLOCK_NAMES_NONE_;
     code = goodlock_names_named_(table, name, length, &own->name);
     if (code == GOODLOCK_OK) {
         slot = goodlock_names_slot_of_(table, table->addresses, address, table->mask + 1, true);
-        code = slot == NULL ? GOODLOCK_NAMES : GOODLOCK_OK;
+        code = slot ? GOODLOCK_OK : GOODLOCK_NAMES;
     }
     if (code == GOODLOCK_OK && GOODLOCK_NAMES_SWAP_(&slot->entry, entry, own)) {
         goodlock_names_keep_(table, own);
@@ -323,15 +334,16 @@ static inline uint32_t goodlock_names_new_at_(struct goodlock_names_table_ *tabl
 static inline uint32_t goodlock_names_new_literal_(struct goodlock_names_table_ *table, const char *literal,
                                                    uint32_t *number)
 {
-    struct goodlock_names_entry_ *entry = NULL;
+    struct goodlock_names_entry_ *entry = GOODLOCK_NAMES_NULL_;
     struct goodlock_names_slot_ *slot;
-    uint32_t code = goodlock_names_named_(table, (const uint8_t *)literal, strlen(literal), &entry);
+    uint32_t code =
+        goodlock_names_named_(table, GOODLOCK_NAMES_POINTER_AS_(const uint8_t *, literal), strlen(literal), &entry);
     if (code == GOODLOCK_OK)
         code = goodlock_names_numbered_(table, entry, number);
     if (code != GOODLOCK_OK)
         return code;
     slot = goodlock_names_slot_of_(table, table->literals, literal, GOODLOCK_NAMES_PROBES_, true);
-    if (slot != NULL)
+    if (slot)
         GOODLOCK_NAMES_STORE_(&slot->entry, entry);
     return GOODLOCK_OK;
 }
@@ -344,11 +356,11 @@ static inline size_t goodlock_names_suffixed_(struct goodlock_names_entry_ *name
     if (suffix == 1)
         return name->length;
     for (; suffix > 0; suffix /= 10)
-        digits[count++] = (uint8_t)('0' + suffix % 10);
+        digits[count++] = GOODLOCK_NAMES_AS_(uint8_t, '0' + suffix % 10);
     *at++ = '#';
     while (count > 0)
         *at++ = digits[--count];
-    return (size_t)(at - goodlock_names_bytes_(name));
+    return GOODLOCK_NAMES_AS_(size_t, at - goodlock_names_bytes_(name));
 }
 
 typedef uint32_t goodlock_names_call_(goodlock_session *, const uint8_t *, size_t, uint32_t *);
@@ -391,25 +403,26 @@ static inline uint32_t goodlock_names_open(uint32_t most, goodlock_names *names)
     uint32_t bits = 1;
     size_t slots;
     char *rest;
-    if (names->at != NULL)
+    if (names->at)
         return GOODLOCK_MISUSE;
     if (most < 1 || most > GOODLOCK_NAMES_MOST_)
         return GOODLOCK_RANGE;
     while (UINT32_C(1) << bits < 2 * most)
         bits++;
-    slots = (size_t)1 << bits;
-    rest = (char *)calloc(1, sizeof *table + slots * (sizeof *table->names + 2 * sizeof *table->addresses) +
-                                 most * sizeof *table->numbered);
-    if (rest == NULL)
+    slots = GOODLOCK_NAMES_AS_(size_t, 1) << bits;
+    rest = GOODLOCK_NAMES_AS_(char *,
+                              calloc(1, sizeof *table + slots * (sizeof *table->names + 2 * sizeof *table->addresses) +
+                                            most * sizeof *table->numbered));
+    if (!rest)
         return GOODLOCK_MEMORY;
-    table = (struct goodlock_names_table_ *)rest;
+    table = GOODLOCK_NAMES_POINTER_AS_(struct goodlock_names_table_ *, rest);
     rest += sizeof *table;
-    table->addresses = (struct goodlock_names_slot_ *)rest;
+    table->addresses = GOODLOCK_NAMES_POINTER_AS_(struct goodlock_names_slot_ *, rest);
     table->literals = table->addresses + slots;
-    table->names = (struct goodlock_names_entry_ **)(table->literals + slots);
+    table->names = GOODLOCK_NAMES_POINTER_AS_(struct goodlock_names_entry_ **, table->literals + slots);
     table->numbered = table->names + slots;
     table->most = most;
-    table->mask = (uint32_t)slots - 1;
+    table->mask = GOODLOCK_NAMES_AS_(uint32_t, slots) - 1;
     table->shift = 64 - bits;
     names->at = table;
     return GOODLOCK_OK;
@@ -420,14 +433,14 @@ static inline uint32_t goodlock_names_open(uint32_t most, goodlock_names *names)
 static inline void goodlock_names_free(goodlock_names *names)
 {
     struct goodlock_names_table_ *const table = names->at;
-    struct goodlock_names_entry_ *entry = table == NULL ? NULL : table->made;
-    while (entry != NULL) {
+    struct goodlock_names_entry_ *entry = table ? table->made : GOODLOCK_NAMES_NULL_;
+    while (entry) {
         struct goodlock_names_entry_ *const older = entry->older;
         free(entry);
         entry = older;
     }
     free(table);
-    names->at = NULL;
+    names->at = GOODLOCK_NAMES_NULL_;
 }
 
 /* ---- Mentions. These calls are made on any thread, by many at once. What is known is known however full the table is.
@@ -441,10 +454,10 @@ static inline void goodlock_names_free(goodlock_names *names)
 static inline uint32_t goodlock_names_of(const goodlock_names *names, const uint8_t *name, size_t length,
                                          uint32_t *number)
 {
-    struct goodlock_names_entry_ *entry = NULL;
+    struct goodlock_names_entry_ *entry = GOODLOCK_NAMES_NULL_;
     uint32_t code;
     *number = GOODLOCK_NAMES_NONE_;
-    if (names->at == NULL)
+    if (!names->at)
         return GOODLOCK_MISUSE;
     code = goodlock_names_named_(names->at, name, length, &entry);
     return code == GOODLOCK_OK ? goodlock_names_numbered_(names->at, entry, number) : code;
@@ -459,14 +472,14 @@ static inline uint32_t goodlock_names_at(const goodlock_names *names, const void
     struct goodlock_names_table_ *const table = names->at;
     struct goodlock_names_entry_ *entry;
     *number = GOODLOCK_NAMES_NONE_;
-    if (table == NULL || address == NULL)
+    if (!table || !address)
         return GOODLOCK_MISUSE;
     entry = goodlock_names_known_(table, table->addresses, address, table->mask + 1);
-    if (entry == NULL) {
+    if (!entry) {
         uint32_t code = goodlock_names_new_at_(table, address, name, length, &entry);
         if (code == GOODLOCK_NAMES) /* it may be what filled the table */
             entry = goodlock_names_known_(table, table->addresses, address, table->mask + 1);
-        if (entry == NULL)
+        if (!entry)
             return code;
     }
     return goodlock_names_numbered_(table, entry, number);
@@ -481,11 +494,10 @@ static inline uint32_t goodlock_names_literal(const goodlock_names *names, const
     struct goodlock_names_table_ *const table = names->at;
     struct goodlock_names_entry_ *entry;
     *number = GOODLOCK_NAMES_NONE_;
-    if (table == NULL || literal == NULL)
+    if (!table || !literal)
         return GOODLOCK_MISUSE;
     entry = goodlock_names_known_(table, table->literals, literal, GOODLOCK_NAMES_PROBES_);
-    return entry == NULL ? goodlock_names_new_literal_(table, literal, number)
-                         : goodlock_names_numbered_(table, entry, number);
+    return entry ? goodlock_names_numbered_(table, entry, number) : goodlock_names_new_literal_(table, literal, number);
 }
 
 /* The lock at this address is no more: the next one that is mentioned there is a new lock, with a number of its own.
@@ -495,19 +507,19 @@ static inline void goodlock_names_forget(const goodlock_names *names, const void
 {
     struct goodlock_names_table_ *const table = names->at;
     struct goodlock_names_slot_ *slot;
-    if (table == NULL || address == NULL)
+    if (!table || !address)
         return;
     slot = goodlock_names_slot_of_(table, table->addresses, address, table->mask + 1, false);
-    if (slot != NULL)
-        GOODLOCK_NAMES_STORE_(&slot->entry, (struct goodlock_names_entry_ *)NULL);
+    if (slot)
+        GOODLOCK_NAMES_STORE_(&slot->entry, GOODLOCK_NAMES_AS_(struct goodlock_names_entry_ *, GOODLOCK_NAMES_NULL_));
 }
 
 /* How many numbers were given: 0 where the table isn't open. Any thread. */
 static inline uint32_t goodlock_names_count(const goodlock_names *names)
 {
     struct goodlock_names_table_ *const table = names->at;
-    uint32_t count = table == NULL ? 0 : GOODLOCK_NAMES_LOAD_(&table->next);
-    while (table != NULL && count < table->most && GOODLOCK_NAMES_LOAD_(&table->numbered[count]) != NULL)
+    uint32_t count = table ? GOODLOCK_NAMES_LOAD_(&table->next) : 0;
+    while (table && count < table->most && GOODLOCK_NAMES_LOAD_(&table->numbered[count]))
         count++;
     return count;
 }
@@ -518,12 +530,12 @@ static inline uint32_t goodlock_names_tell_(goodlock_session *session, const goo
                                             goodlock_names_call_ *call)
 {
     struct goodlock_names_table_ *const table = names->at;
-    if (table == NULL || *told > table->most)
+    if (!table || *told > table->most)
         return GOODLOCK_MISUSE;
     for (; *told < table->most; ++*told) {
         struct goodlock_names_entry_ *const entry = GOODLOCK_NAMES_LOAD_(&table->numbered[*told]);
         uint32_t code;
-        if (entry == NULL)
+        if (!entry)
             break;
         code = goodlock_names_tell_one_(session, entry, *told, call);
         if (code != GOODLOCK_OK)

@@ -44,6 +44,10 @@ PAGE = TOP / "docs" / "EMBEDDING.md"
 FAULTS = TOP / "crates" / "gl_std" / "specs" / "Faults.antt"
 ARCHIVE = pathlib.Path(os.environ.get("LIBRARY") or TOP / "prebuilt" / "libgoodlock.a").resolve()
 STRICT = ["-Wall", "-Wextra", "-pedantic", "-Werror"]
+# What programs may have their own sources checked for, and with them the headers.
+STRICTER = {"c": ["-Wconversion", "-Wsign-conversion", "-Wshadow", "-Wcast-qual"]}
+STRICTER["c++"] = [*STRICTER["c"], "-Wold-style-cast", "-Wzero-as-null-pointer-constant"]
+CPP_STANDARDS = ("c++11", "c++14", "c++17", "c++20", "c++2b")
 MODES = ("basic", "guarded", "full")
 INCONSISTENT = 10  # the library's code
 BATCH = 250  # sessions in a process
@@ -274,10 +278,8 @@ class Tests:
             self.check(f"the words of {name}", name in says and says[name] == formats.get(fault), problem)
 
     def alone(self):
-        languages = [("c", "c11", "gcc"), ("c", "c11", "clang"), ("c", "c99", "gcc"), ("c", "c17", "gcc")]
-        languages += [
-            ("c++", standard, tool) for standard in ("c++11", "c++14", "c++17", "c++20") for tool in ("g++", "clang++")
-        ]
+        languages = [("c", standard, tool) for standard in ("c99", "c11", "c17", "c2x") for tool in ("gcc", "clang")]
+        languages += [("c++", standard, tool) for standard in CPP_STANDARDS for tool in ("g++", "clang++")]
         for language, standard, compiler in languages:
             name = f"the header as {standard} by {compiler}"
             if shutil.which(compiler) is None:
@@ -288,7 +290,8 @@ class Tests:
             source = self.folder / f"alone.{'cc' if language == 'c++' else 'c'}"
             source.write_text(text + "int alone;\n")
             for more in ([], ["-DGOODLOCK_DEBUG=2"]):
-                words = [*STRICT, "-Wconversion", "-Wshadow", *more, "-fsyntax-only", f"-I{HEADERS}"]
+                words = [*STRICT, *STRICTER[language], *more, "-fsyntax-only", f"-I{HEADERS}"]
+                words += ["-Wuseless-cast"] * (compiler == "g++")
                 done = run(compiler, f"-std={standard}", *words, source)
                 self.check(" ".join([name, *more]), done.status == 0, done.errors[-3000:])
             self.same_but_for_a_number(f"{name} -DGOODLOCK_DEBUG", compiler, f"-std={standard}", "-x", language)
