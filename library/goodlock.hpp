@@ -1,4 +1,4 @@
-// goodlock.hpp: mutexes and threads of C++ (11 and later) that predict their deadlocks, by goodlock.h.
+// goodlock.hpp: mutexes and threads of C++ (11 and later, with exceptions) that predict their deadlocks, by goodlock.h.
 //
 //     goodlock::start();                                    // in main, before threads are started
 //     goodlock::mutex savings("savings");                   // in place of std::mutex
