@@ -96,6 +96,13 @@ void signals_follow(uint64_t mask)
         signals_let_in(&mask);
 }
 
+/* ThreadSanitizer doesn't see that slow parts come one after the other, and would tell of races in them. */
+static void watcher_turns(void (*const calls[2])(const char *, int))
+{
+    calls[0](__FILE__, __LINE__);
+    calls[1](__FILE__, __LINE__);
+}
+
 /* While a thread is in a slow part it has no current thread: a lock that a library takes on the
  * recorder's behalf isn't recorded. Nor is it cancelled where the recorder opens a file, as it would be in no call of a
  * lock. */
@@ -108,10 +115,15 @@ void slow_enter(struct slow_state *state)
     state->thread = current_thread;
     current_thread = &thread_none;
     in_slow_part = 1;
+    state->looks_away = real.look_away[0] && thread_is_watched(state->thread);
+    if (unlikely(state->looks_away))
+        watcher_turns(real.look_away);
 }
 
 void slow_leave(struct slow_state *state)
 {
+    if (unlikely(state->looks_away))
+        watcher_turns(real.look_back);
     current_thread = state->thread;
     in_slow_part = 0;
     inner_leave(&process.slow_lock);

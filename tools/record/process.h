@@ -89,6 +89,10 @@ int in_compiler_module(uint64_t address);
 /* In a forked child: the present thread is the first thread of the new process. */
 void thread_forget(void);
 
+/* Whether a sanitizer knows the present thread, whose state this is: not one that was made past its calls, nor one that
+ * is about to be gone. */
+int thread_is_watched(const struct thread *thread);
+
 #pragma GCC visibility pop
 
 #endif

@@ -3,6 +3,7 @@
 
 #include <dlfcn.h>
 #include <errno.h>
+#include <string.h>
 
 static int finding;
 int real_found;
@@ -46,6 +47,22 @@ static void *wait_of(void *function, const char *name)
 
 #endif
 
+/* By which ThreadSanitizer is told to look away from a thread, and to look again. Only where it is the library that has
+ * the locks: one that Clang links into the program knows its threads too late. */
+static void watcher_find(struct real_functions *all)
+{
+    static const char *const names[2][2] = {{"AnnotateIgnoreReadsBegin", "AnnotateIgnoreWritesBegin"},
+                                            {"AnnotateIgnoreWritesEnd", "AnnotateIgnoreReadsEnd"}};
+    void *found[2][2];
+    for (int i = 0; i < 4; i++) {
+        void *function = found[i / 2][i % 2] = dlsym(RTLD_NEXT, names[i / 2][i % 2]);
+        if (!function || !are_of_one_library(function, (void *)all->pthread_mutex_lock))
+            return;
+    }
+    memcpy(all->look_away, found[0], sizeof found[0]);
+    memcpy(all->look_back, found[1], sizeof found[1]);
+}
+
 int real_find(void)
 {
     if (real_found || finding)
@@ -73,6 +90,7 @@ int real_find(void)
     real_clone = dlsym(RTLD_NEXT, "clone");
     function = dlsym(RTLD_NEXT, "pthread_attr_getsigmask_np");
     all.pthread_attr_getsigmask_np = (int (*)(const pthread_attr_t *, sigset_t *))function;
+    watcher_find(&all);
     real = all;
     real_found = 1;
     finding = 0;

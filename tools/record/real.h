@@ -87,6 +87,8 @@ struct real_functions {
 #undef REAL_MEMBER
     size_t (*malloc_usable_size)(void *); /* of the library that frees; NULL: it has none */
     int (*pthread_attr_getsigmask_np)(const pthread_attr_t *, sigset_t *); /* NULL: attributes have no mask */
+    void (*look_away[2])(const char *, int); /* of ThreadSanitizer, where its library watches the program; else NULL */
+    void (*look_back[2])(const char *, int);
 };
 
 extern struct real_functions real;

@@ -105,6 +105,7 @@ struct slow_state {
     struct thread *thread;
     int error;
     int cancel_state;
+    int looks_away; /* whether ThreadSanitizer was told to look away */
     uint64_t signals;
 };
 

@@ -169,6 +169,11 @@ void thread_forget(void)
     own_record = NULL;
 }
 
+int thread_is_watched(const struct thread *thread)
+{
+    return own_record && own_record->parent != THREAD_FOREIGN && thread->exit_rounds < PTHREAD_DESTRUCTOR_ITERATIONS;
+}
+
 /* Runs when the thread ends, with the destructors of other keys, which may still take locks and release them: so it
  * asks to be called again as often as the system allows, and gives the state back in the last round. A thread that
  * holds locks even then keeps it, and its end is told, as nobody else releases them. */
