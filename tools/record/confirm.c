@@ -253,7 +253,7 @@ void confirm_after(struct thread *thread)
 
 void confirm_start(void)
 {
-    const char *path = getenv("GOODLOCK_CONFIRM_PLAN");
+    const char *path = variable("GOODLOCK_CONFIRM_PLAN");
     confirming = 0;
     if (!path || !(plan = file_read(path)) || sscanf(plan, "%u %u", &plan_edges, &plan_milliseconds) != 2 ||
         plan_edges < 1 || plan_edges > EDGE_LIMIT)

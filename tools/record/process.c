@@ -26,6 +26,8 @@
 #define NUMBER_APART 200 /* the least number by which the recorder has a file open */
 #define FILE_TRIES 4     /* how often a file is made where its number is taken away */
 
+extern void *__libc_stack_end;
+
 struct process process;
 struct thread thread_none;
 __thread struct thread *current_thread = &thread_none;
@@ -549,11 +551,30 @@ static void process_unrecorded(void)
     pages_drop(mark, MARK_BYTES);
 }
 
+/* The program's variables as the system left them on its stack: how many words there are, these and a null, and then
+ * the variables. */
+static char **variables_given(void)
+{
+    char **words = (char **)__libc_stack_end + 1;
+    uintptr_t count = *(const uintptr_t *)__libc_stack_end;
+    return words[count] ? NULL : words + count + 1;
+}
+
+/* Before all constructors (.preinit_array) the C library has no variables yet. */
+const char *variable(const char *name)
+{
+    size_t length = strlen(name);
+    for (char **at = environ ? environ : variables_given(); at && *at; at++)
+        if (strncmp(*at, name, length) == 0 && (*at)[length] == '=')
+            return *at + length + 1;
+    return NULL;
+}
+
 static void process_settings(void)
 {
-    const char *directory = getenv("GOODLOCK_RECORD_DIRECTORY");
-    const char *frames = getenv("GOODLOCK_RECORD_FRAMES");
-    process.all = getenv("GOODLOCK_RECORD_ALL") != NULL;
+    const char *directory = variable("GOODLOCK_RECORD_DIRECTORY");
+    const char *frames = variable("GOODLOCK_RECORD_FRAMES");
+    process.all = variable("GOODLOCK_RECORD_ALL") != NULL;
     if (directory && strlen(directory) < sizeof process.directory)
         strcpy(process.directory, directory);
     process.frames = frames ? (unsigned)atoi(frames) : 1;

@@ -13,6 +13,9 @@
 /* Whether this process is recorded; begins its files if it has none yet. */
 int process_ready(void);
 
+/* The value of a variable of the program's environment, or NULL. */
+const char *variable(const char *name);
+
 /* Sees to it that the end of this process is marked in its file. */
 void endings_start(void);
 

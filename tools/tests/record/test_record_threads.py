@@ -1,5 +1,6 @@
 """Threads and their names, and events that come early, late or in between: of libraries, keys and signal handlers."""
 
+import os
 import re
 
 import pytest
@@ -110,6 +111,17 @@ def test_library_constructors_and_destructors():
             "library.c",
         ),
     )
+
+
+@pytest.mark.parametrize("by_loader", [False, True])
+def test_before_all_constructors(by_loader):
+    """Then the C library doesn't know the program's variables yet, by which the recorder is told what to do."""
+    with open("earliest", "rb") as file:
+        loader = os.fsdecode(re.search(rb"/lib[\w/.-]*/ld-[\w.-]+", file.read()).group())
+    run = record(*[loader] * by_loader, "./earliest")
+    assert run.status == 0, run.said
+    text = "main|acq(a)|@earliest\nmain|rel(a)|@earliest_end\nmain|acq(a)|@later\nmain|rel(a)|@later_end"
+    compare(run.lines(), known(text, "earliest.c"))
 
 
 def test_signal_handler_that_locks():
