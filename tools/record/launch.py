@@ -100,11 +100,12 @@ recorder = Recorder()
 
 
 def say(text):
-    """A line on standard error. Where that is closed, or on a full disk, nobody hears it."""
+    """A line on standard error. Where that is closed, or on a full disk, nobody hears it: nothing is kept of it that Python would try
+    to write in the end, with a status of its own if it can't."""
     try:
         if sys.stderr:
-            sys.stderr.write(recorder.name + ": " + text + "\n")
-            sys.stderr.flush()
+            line = "%s: %s\n" % (recorder.name, text)
+            os.write(sys.stderr.fileno(), line.encode(sys.stderr.encoding, "backslashreplace"))
     except OSError:
         pass
 

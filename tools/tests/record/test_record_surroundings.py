@@ -179,6 +179,14 @@ def test_closed_standard_files():
     assert len(traces) == 1 and len(read_lines(traces[0])) == 2, str(traces)
 
 
+@pytest.mark.parametrize("options", [[], ["--live"]], ids=["trace", "live"])
+def test_standard_error_on_a_full_disk(options):
+    """What is said there is lost, and the status is the program's."""
+    with open("/dev/full", "wb") as full:
+        done = subprocess.run([RECORD, *options, "-o", "t.std", "./locks", "leaves_at_once"], stderr=full)
+    assert done.returncode == 5 and os.path.exists("t.std")
+
+
 def test_an_earlier_preload_library_has_the_waits():
     """Its functions have no version, as those of the C library have, of which there are two."""
     environment = dict(os.environ, LD_PRELOAD=os.path.abspath("libwaits.so"))
