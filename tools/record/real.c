@@ -1,6 +1,8 @@
 #define _GNU_SOURCE
 #include "real.h"
 
+#include "recorder.h"
+
 #include <dlfcn.h>
 #include <errno.h>
 #include <string.h>
@@ -10,10 +12,11 @@ int real_found;
 void *real_vfork, *real_clone;
 
 /* dlsym may allocate, and an allocator may take a lock. It comes here before its lock's function is found
- * (`finding`); no second thread runs that early, so the lock may be passed over. */
+ * (`finding`); no second thread runs that early, so the lock may be passed over. The same where the program's ifuncs
+ * are resolved, before there are thread-locals: then dlsym can't be asked yet. */
 static int stand_in(void)
 {
-    return finding ? 0 : ENOSYS;
+    return finding || !current_thread ? 0 : ENOSYS;
 }
 
 struct real_functions real = {

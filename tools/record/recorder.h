@@ -231,6 +231,8 @@ struct thread *thread_enter(void);
 static inline struct thread *recording_thread(void)
 {
     struct thread *thread = current_thread;
+    if (unlikely(!thread)) /* the program's ifuncs are resolved, and thread-locals are all zero */
+        return NULL;
     if (likely(thread->chunk != NULL))
         return thread;
     return thread_enter();

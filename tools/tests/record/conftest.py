@@ -19,7 +19,8 @@ def programs(tmp_path_factory):
     build("gcc", C_FLAGS + ["-O1", "-o", "locks", source("locks.c")], folder)
     build("gcc", C_FLAGS + ["-O1", "-g0", "-o", "locks-without-lines", source("locks.c")], folder)
     build("gcc", C_FLAGS + ["-O1", "-static", "-o", "locks-static", source("locks.c")], folder)
-    for name in ("random", "walks", "storm", "interrupted", "forking", "thousands", "numbers", "born", "sealed", "earliest"):
+    names = ("random", "walks", "storm", "interrupted", "forking", "thousands", "numbers", "born", "sealed")
+    for name in names + ("earliest", "resolved"):
         build("gcc", C_FLAGS + ["-O1", "-o", name, source(name + ".c")], folder)
     build("g++", C_FLAGS + ["-std=c++17", "-O0", "-o", "wrappers-O0", source("wrappers.cc")], folder)
     build("g++", C_FLAGS + ["-std=c++17", "-O2", "-o", "wrappers-O2", source("wrappers.cc")], folder)

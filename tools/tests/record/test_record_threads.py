@@ -124,6 +124,13 @@ def test_before_all_constructors(by_loader):
     compare(run.lines(), known(text, "earliest.c"))
 
 
+def test_before_thread_locals():
+    """What is done while ifuncs are resolved isn't recorded, and neither ends the program nor what comes afterwards."""
+    run = record("./resolved")
+    assert run.status == 0, run.said
+    compare(run.lines(), known("main|acq(a)|@later\nmain|rel(a)|@later_end", "resolved.c"))
+
+
 def test_signal_handler_that_locks():
     expect(
         "signals",
