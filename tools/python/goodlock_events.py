@@ -31,6 +31,7 @@ KIND_MASK = 31
 SITE_SHIFT, OBJECT_SHIFT = 5, 32
 CALL_MASK = ~KIND_MASK
 HELD_LIMIT = 64
+DEPTH_LIMIT = 1000000  # goodlock takes no more acquires of a lock by a thread that holds it
 # Words of the record of losses.
 LOST_LOCKS, LOST_PLACES, LOST_THREADS, LOST_REASON = 2, 3, 4, 5
 KEYS_LIMIT = 1 << 22
@@ -189,6 +190,8 @@ class ThreadState:
             self.keep_above(self.held.index(held))
             if not reentrant:
                 held, kind = None, AGAIN
+            elif held.depth == DEPTH_LIMIT:
+                held, kind = None, BEYOND
         word = call | kind
         if self.is_news(self.context_of(self.held[-1].context, word)):
             self.news += 1

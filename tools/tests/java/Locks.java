@@ -599,6 +599,22 @@ public class Locks {
         }
     }
 
+    /** As where a release is forgotten: the thread never has to wait for itself. */
+    static void leaks() {
+        for (int i = 0; i < 1_000_002; i++) {
+            again.lock(); // @leaks_lock
+        }
+        try {
+            Thread.currentThread().interrupt();
+            again.lockInterruptibly();
+        } catch (InterruptedException expected) {
+            words[0].length();
+        }
+        for (int i = 0; i < 1_000_002; i++) {
+            again.unlock(); // @leaks_unlock
+        }
+    }
+
     /** More locks than a table begins with, most of them collected soon. */
     static void manyObjects() {
         for (int i = 0; i < 200_000; i++) {

@@ -1,5 +1,6 @@
 """Threads and their names; repeats, which are left out; and the places of events."""
 
+import itertools
 import re
 
 import pytest
@@ -140,6 +141,18 @@ def test_more_locks_than_goodlock_reads():
     text += ["main|rel(ReentrantLock@@beyond_made#%d)|@beyond_end" % i for i in range(64, 0, -1)]
     run = expect("manyLocks", "\n".join(text))
     assert "2 acquires by threads that held 64 locks" in run.said, run.said
+
+
+def test_lock_taken_more_often_than_goodlock_reads():
+    """What is beyond that counts as not taken: it is neither taken back nor released. Of the other calls one was interrupted, and two
+    are unlocks."""
+    run = record("leaks")
+    assert run.status == 0 and "3 other calls" in run.said, run.said
+    assert "2 acquires by threads that held 64 locks, or the lock 1000000 times" in run.said, run.said
+    counts = [(line, len(list(group))) for line, group in itertools.groupby(run.lines())]
+    words = (("acq", "lock", 1000000), ("beyond", "lock", 2), ("rel", "unlock", 1000000))
+    known = [("main|%s(ReentrantLock@@again#1)|@leaks_%s" % (word, place), count) for word, place, count in words]
+    assert counts == [(expand(line, MARKS)[0], count) for line, count in known], counts
 
 
 def test_many_locks_that_are_collected():

@@ -356,6 +356,18 @@ def many_locks():
 
 
 @program
+def leaks():
+    """As where a release is forgotten: the thread never has to wait for itself. The limit is lowered, as events are slow."""
+    events = sys.modules["goodlock_events"]
+    assert events.DEPTH_LIMIT == 1000000
+    events.DEPTH_LIMIT = 3
+    for _ in range(5):
+        again.acquire()  # @leaks_acquire
+    for _ in range(5):
+        again.release()  # @leaks_release
+
+
+@program
 def deadlock():
     meeting = [queue.SimpleQueue(), queue.SimpleQueue()]
 

@@ -149,6 +149,15 @@ def test_more_locks_than_goodlock_reads():
     assert "2 acquires by threads that held 64 locks" in run.said, run.said
 
 
+def test_lock_taken_more_often_than_goodlock_reads():
+    """What is beyond that counts as not taken: the lock is released as often as it was, and then the releases are strays, of which the
+    first one is kept."""
+    text = ["main|%s(RLock@@again#1)|@leaks_acquire" % word for word in ["acq"] * 3 + ["beyond"] * 2]
+    text += ["main|rel(RLock@@again#1)|@leaks_release"] * 4
+    run = expect("leaks", "\n".join(text))
+    assert "2 acquires by threads that held 64 locks, or the lock 1000000 times" in run.said, run.said
+
+
 def test_same_bytes_twice():
     for name in ("locks_of_racing_threads", "opposite", "pool"):
         assert record(name).lines() == record(name).lines(), "two runs of %s differ" % name

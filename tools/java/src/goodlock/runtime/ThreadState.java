@@ -21,6 +21,8 @@ final class ThreadState {
     private static final int SITE_SHIFT = 5;
     private static final int OBJECT_SHIFT = 32;
     private static final int HELD_LIMIT = 64;
+    /** goodlock takes no more acquires of a lock by a thread that holds it. */
+    private static final int DEPTH_LIMIT = 1_000_000;
     private static final int FIRST_KEYS = 256;
     private static final int KEYS_LIMIT = 1 << 22;
     private static final int NOWHERE = -1;
@@ -265,14 +267,15 @@ final class ThreadState {
         long context = held[heldCount - 1].context;
         int written = kind;
         boolean shared = kind == SHARED_ACQUIRE || kind == TRY_SHARED_ACQUIRE;
-        if (index < 0) {
-            written = BEYOND;
-        } else if (held[index].shared && !shared) {
-            written = UPGRADE;
+        if (index >= 0) {
             keepAbove(index);
+        }
+        if (index >= 0 && held[index].shared && !shared) {
+            written = UPGRADE;
+        } else if (index < 0 || held[index].depth == DEPTH_LIMIT) {
+            written = BEYOND;
         } else {
             held[index].depth++;
-            keepAbove(index);
         }
         long word = word(written, site, lock);
         if (isNews(keyOf(context, word))) {
@@ -290,7 +293,7 @@ final class ThreadState {
             words.putLong(8 * used, 0);
         }
         int kind = (int) last & (1 << SITE_SHIFT) - 1;
-        if (index >= 0 && kind != UPGRADE) {
+        if (index >= 0 && kind != UPGRADE && kind != BEYOND) {
             if (held[index].depth > 1) {
                 held[index].depth--;
             } else {
