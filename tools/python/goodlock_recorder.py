@@ -268,12 +268,15 @@ real_start, real_join, real_bootstrap = threading.Thread.start, threading.Thread
 
 
 def routine_of(thread):
-    """A short name of what the thread runs."""
+    """A short name of what the thread runs, which may be an object that answers any question in its own way."""
     routine = getattr(thread, "_target", None)
-    while hasattr(routine, "func"):  # functools.partial
+    while issubclass(type(routine), functools.partial):
         routine = routine.func
-    name = getattr(routine, "__qualname__", None)
-    if name is None:
+    try:
+        name = getattr(routine, "__qualname__", None)
+    except Exception:
+        name = None
+    if not issubclass(type(name), str):
         name = "" if type(thread) is threading.Thread else type(thread).__qualname__
     return name.replace(".<locals>", "").replace("<lambda>", "lambda")
 

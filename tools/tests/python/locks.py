@@ -289,6 +289,38 @@ def threads():
     late.join()  # @late_join
 
 
+class AnswersAll:
+    """Each attribute of it is such an object."""
+    answers = 100
+
+    def __getattr__(self, name):
+        assert self.answers > 0
+        AnswersAll.answers -= 1
+        return AnswersAll()
+
+    def __call__(self):
+        pair()
+
+
+class AnswersNothing:
+    def __init__(self):
+        self.__name__ = "which the threading module asks for"
+
+    def __getattr__(self, name):
+        raise RuntimeError(name)
+
+    def __call__(self):
+        pass
+
+
+@program
+def odd_routines():
+    for routine in (AnswersAll(), AnswersNothing(), functools.partial(AnswersNothing())):
+        thread = threading.Thread(target=routine)
+        thread.start()  # @odd_start
+        thread.join()  # @odd_join
+
+
 @program
 def pool():
     from concurrent.futures import ThreadPoolExecutor

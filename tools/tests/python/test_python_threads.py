@@ -28,6 +28,12 @@ def test_threads_made_and_joined():
     compare(lines, expand("\n".join(text), MARKS))
 
 
+def test_routines_that_are_odd_objects():
+    """As mocks, which have any attribute that is asked for: they have no name, and are run."""
+    text = "".join("\nmain|fork(main.%d)|@odd_start\nmain|join(main.%d)|@odd_join" % (i, i) for i in (1, 2, 3))
+    expect("odd_routines", text + PAIR.replace("main|", "main.1|"))
+
+
 def test_thread_pools():
     run = record("pool")
     assert run.status == 0, run.said
