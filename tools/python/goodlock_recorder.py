@@ -74,15 +74,15 @@ class RecordedLock:
 
     __slots__ = ("_raw", "_known", "__weakref__")
 
-    def __new__(cls):
+    def __new__(cls, *arguments, **words):
         frame = _getframe(1)
         name, inner = made_by(frame)
-        raw = cls.make_raw()
+        raw = cls.make_raw(*arguments, **words)
         if inner:
             return raw
         lock = object.__new__(cls)
         lock._raw = raw
-        lock._known = recorder.made(name or cls.__name__, cls is RLock, frame)
+        lock._known = recorder.made(name or cls.__name__, issubclass(cls, RLock), frame)
         return lock
 
     def acquire(self, blocking=True, timeout=-1):

@@ -143,6 +143,20 @@ def reentrant():
                 pass
 
 
+class Named(type(threading.RLock())):
+    def __init__(self, name):
+        super().__init__()
+        self.name = name
+
+
+@program
+def class_of_locks():
+    lock = Named("x")  # @named
+    with lock:  # @named_1
+        with lock:  # @named_2
+            assert lock.name == "x"
+
+
 @program
 def own_lock_twice_is_no_cycle():
     run_in_turn(lambda: both(again, again), lambda: both(again, again))

@@ -66,6 +66,18 @@ def test_reentrant_locks():
     )
 
 
+def test_class_of_reentrant_locks():
+    """A class of the program's, whose constructor takes words: its locks are reentrant too."""
+    expect(
+        "class_of_locks",
+        """
+        main|acq(Named@@named#1)|@named_1
+        main|acq(Named@@named#1)|@named_2
+        main|rel(Named@@named#1)|@named_2
+        main|rel(Named@@named#1)|@named_1""",
+    )
+
+
 def test_own_lock_twice_is_no_cycle():
     expect_cycles("own_lock_twice_is_no_cycle", 0)
 
