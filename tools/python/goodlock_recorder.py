@@ -48,6 +48,14 @@ SEMAPHORES_NO_LOCKS = (
 recorder = None
 
 
+def caller():
+    """The frame that called the recorder's function; that function's own where C code did, outside of any of Python's."""
+    try:
+        return _getframe(2)
+    except ValueError:
+        return _getframe(1)
+
+
 # --- Locks ------------------------------------------------------------------------------------------------
 
 
@@ -75,7 +83,7 @@ class RecordedLock:
     __slots__ = ("_raw", "_known", "__weakref__")
 
     def __new__(cls, *arguments, **words):
-        frame = _getframe(1)
+        frame = caller()
         name, inner = made_by(frame)
         raw = cls.make_raw(*arguments, **words)
         if inner:
@@ -88,7 +96,7 @@ class RecordedLock:
     def acquire(self, blocking=True, timeout=-1):
         raw = self._raw
         if blocking and timeout == -1:
-            token = recorder.wants(self._known, _getframe(1))
+            token = recorder.wants(self._known, caller())
             try:
                 taken = raw.acquire(blocking, timeout)
             except BaseException:
@@ -101,7 +109,7 @@ class RecordedLock:
         taken = raw.acquire(blocking, timeout)
         try:
             if taken:
-                recorder.took(self._known, _getframe(1))
+                recorder.took(self._known, caller())
             else:
                 recorder.did_not_take()
         except RecursionError:
@@ -109,7 +117,7 @@ class RecordedLock:
         return taken
 
     def __enter__(self):
-        token = recorder.wants(self._known, _getframe(1))
+        token = recorder.wants(self._known, caller())
         try:
             taken = self._raw.acquire()
         except BaseException:
@@ -122,14 +130,14 @@ class RecordedLock:
     def release(self):
         self._raw.release()
         try:
-            recorder.released(self._known, _getframe(1))
+            recorder.released(self._known, caller())
         except RecursionError:
             recorder.local.state.put_off.append((settle, self._known, "?", "?", ()))
 
     def __exit__(self, kind, value, traceback):
         self._raw.release()
         try:
-            recorder.released(self._known, _getframe(1))
+            recorder.released(self._known, caller())
         except RecursionError:
             recorder.local.state.put_off.append((settle, self._known, "?", "?", ()))
 
@@ -157,7 +165,7 @@ class RecordedLock:
 
     def _at_fork_reinit(self):
         self._raw._at_fork_reinit()
-        recorder.forgotten(self._known, _getframe(1))
+        recorder.forgotten(self._known, caller())
 
 
 class Lock(RecordedLock):
@@ -174,7 +182,7 @@ class Lock(RecordedLock):
     _is_owned = locked_lock = locked
 
     def _release_save(self):
-        recorder.waits(self._known, _getframe(1))
+        recorder.waits(self._known, caller())
         self._raw.release()
 
     def _acquire_restore(self, saved):
@@ -186,13 +194,13 @@ class RLock(RecordedLock):
     make_raw = RawRLock
 
     def _release_save(self):
-        recorder.waits(self._known, _getframe(1))
+        recorder.waits(self._known, caller())
         return self._raw._release_save()
 
 
 def allocate_raw_lock():
     """Stands for _thread.allocate_lock: the standard library's own locks stay as they are."""
-    file = _getframe(1).f_code.co_filename
+    file = caller().f_code.co_filename
     if file.startswith("<frozen ") or file.startswith(STANDARD_PREFIX) and not file.startswith(INSTALLED):
         return allocate_lock()
     return Lock()
@@ -200,7 +208,7 @@ def allocate_raw_lock():
 
 def allocate_lock_seen():
     """Stands for threading._allocate_lock: the threading module's own locks stay as they are."""
-    if _getframe(1).f_code.co_filename == THREADING:
+    if caller().f_code.co_filename == THREADING:
         return allocate_lock()
     return Lock()
 
@@ -218,7 +226,7 @@ def semaphore_start(self, value=1):
     real_semaphore_start(self, value)
     self._goodlock_known = None
     if value == 1:
-        self._goodlock_known = recorder.made(type(self).__name__, False, _getframe(1))
+        self._goodlock_known = recorder.made(type(self).__name__, False, caller())
     else:
         recorder.process.note(SEMAPHORES_UNSEEN)
 
@@ -229,7 +237,7 @@ def semaphore_acquire(self, blocking=True, timeout=None):
     if known is None:
         return real_semaphore_acquire(self, blocking, timeout)
     if blocking and timeout is None:
-        token = recorder.wants(known, _getframe(1))
+        token = recorder.wants(known, caller())
         try:
             return real_semaphore_acquire(self, blocking, timeout)
         except BaseException:
@@ -237,7 +245,7 @@ def semaphore_acquire(self, blocking=True, timeout=None):
             raise
     taken = real_semaphore_acquire(self, blocking, timeout)
     if taken:
-        recorder.took(known, _getframe(1))
+        recorder.took(known, caller())
     else:
         recorder.did_not_take()
     return taken
@@ -253,7 +261,7 @@ def semaphore_release_of(kind):
         if known is None:
             return
         for _ in range(n):
-            if recorder.released(known, _getframe(1)) is False:
+            if recorder.released(known, caller()) is False:
                 self._goodlock_known = None
                 recorder.process.no_lock(known)
                 recorder.process.note(SEMAPHORES_NO_LOCKS)
@@ -285,7 +293,7 @@ def routine_of(thread):
 def thread_start(self):
     plan = None
     if getattr(self, "_initialized", False) and not self._started.is_set():
-        plan = self._goodlock_plan = recorder.starting(routine_of(self), _getframe(1))
+        plan = self._goodlock_plan = recorder.starting(routine_of(self), caller())
     try:
         real_start(self)
     except BaseException:
@@ -307,7 +315,7 @@ def thread_join(self, timeout=None):
     real_join(self, timeout)
     plan = getattr(self, "_goodlock_plan", None)
     if plan is not None and not self.is_alive():
-        recorder.joined(plan, _getframe(1))
+        recorder.joined(plan, caller())
     else:
         recorder.did_not_take()
 

@@ -1,6 +1,7 @@
 """Programs with known traces, by name. Marks in comments name their lines."""
 
 import _thread
+import atexit
 import copy
 import dataclasses
 import functools
@@ -623,6 +624,14 @@ def nothing():
 def leaves_at_once():
     pair()
     os._exit(5)
+
+
+@program
+def called_at_exit():
+    """By C code, outside of any function of Python's; the last one first."""
+    semaphore = threading.Semaphore()  # @exit_semaphore
+    for call in (a.release, semaphore.release, semaphore.acquire, functools.partial(a.acquire, False)):
+        atexit.register(call)
 
 
 @program

@@ -89,5 +89,18 @@ def test_locks_at_any_moment():
     assert len(run.lines()) < 3000, "%d lines" % len(run.lines())
 
 
+def test_calls_that_no_function_of_python_makes():
+    """Such a call has no place."""
+    run = expect(
+        "called_at_exit",
+        """
+        main|tryacq(Lock@@a#1)|?
+        main|acq(Semaphore@@exit_semaphore#1)|?
+        main|rel(Semaphore@@exit_semaphore#1)|?
+        main|rel(Lock@@a#1)|?""",
+    )
+    assert "Exception ignored" not in run.said, run.said
+
+
 def test_exit_without_an_end():
     expect("leaves_at_once", PAIR, status=5)
