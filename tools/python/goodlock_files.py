@@ -2,7 +2,7 @@
 
 import errno
 import os
-import struct
+from struct import pack, pack_into
 
 from goodlock_memory import Mapped
 
@@ -146,8 +146,8 @@ class Files:
         self.reserve(self.used, size)
         chunk = self.extent.bytes[self.used : self.used + size]
         self.used += size
-        struct.pack_into("=IIIQ", chunk, 4, thread, order, size, used)
-        struct.pack_into("=I", chunk, 0, magic)
+        pack_into("=IIIQ", chunk, 4, thread, order, size, used)
+        pack_into("=I", chunk, 0, magic)
         return chunk[:CHUNK_HEAD].cast("Q"), chunk[CHUNK_HEAD:].cast("Q")
 
     def new_events(self, thread, order):
@@ -157,7 +157,7 @@ class Files:
 
     def write(self, kind, numbers, text=None):
         """Writes a record; its words, to be changed later. It counts once it is whole."""
-        data = struct.pack("=%dQ" % len(numbers), *numbers)
+        data = pack("=%dQ" % len(numbers), *numbers)
         if text is not None:
             data += bytes_of(text, PLACE_LIMIT if kind == RECORD_PLACE else NAME_LIMIT) + b"\0"
         data += bytes(-len(data) % 8)

@@ -1,4 +1,8 @@
-"""Stands before the locks and threads of the threading module: docs/RECORDING-PYTHON.md says what is recorded as what."""
+"""Stands before the locks and threads of the threading module: docs/RECORDING-PYTHON.md says what is recorded as what.
+
+When the interpreter ends it empties the modules that something still knows, while finalizers take locks. So the recorder's own
+modules know names of each other's, and not each other.
+"""
 
 import _thread
 import functools
@@ -9,9 +13,8 @@ from _thread import RLock as RawRLock
 from _thread import allocate_lock
 from sys import _getframe
 
-import goodlock_events
-import goodlock_files
-from goodlock_events import settle
+from goodlock_events import Places, Process, Recorder, settle
+from goodlock_files import Files, Mark
 
 FRAMES_LIMIT = 16
 AGAIN = 3  # in a token of an acquire: the thread seemed to hold the lock already
@@ -21,7 +24,7 @@ STANDARD = os.path.dirname(threading.Thread.start.__code__.co_filename)
 STANDARD_PREFIX = STANDARD + os.sep
 INSTALLED = tuple(STANDARD_PREFIX + folder + os.sep for folder in ("site-packages", "dist-packages"))
 THREADING = threading.Thread.start.__code__.co_filename
-OWN_FILES = {_getframe(0).f_code.co_filename, goodlock_events.Places.text_of.__code__.co_filename}
+OWN_FILES = {_getframe(0).f_code.co_filename, Places.text_of.__code__.co_filename}
 PASSED_OVER = (
     {THREADING}
     | OWN_FILES
@@ -353,10 +356,10 @@ def say(text):
 def started_process(directory):
     """The present process with its files, or None."""
     frames = max(1, min(FRAMES_LIMIT, int(os.environ.get("GOODLOCK_PYTHON_FRAMES", "1"))))
-    places = goodlock_events.Places(PASSED_OVER, OWN_FILES, frames)
+    places = Places(PASSED_OVER, OWN_FILES, frames)
     everything = "GOODLOCK_PYTHON_ALL" in os.environ
-    mark = goodlock_files.Mark(directory)
-    process = goodlock_events.Process(lambda: goodlock_files.Files(directory), places, everything, read_command(), mark)
+    mark = Mark(directory)
+    process = Process(lambda: Files(directory), places, everything, read_command(), mark)
     try:
         process.begin()
     except OSError as error:
@@ -391,7 +394,7 @@ def start():
     process = started_process(directory)
     if process is None:
         return
-    recorder = goodlock_events.Recorder(process)
+    recorder = Recorder(process)
     os.register_at_fork(
         before=recorder.before_fork,
         after_in_parent=recorder.after_fork_in_parent,

@@ -635,6 +635,21 @@ def called_at_exit():
 
 
 @program
+def finalizer_at_the_end():
+    """The interpreter has emptied modules when it runs."""
+
+    class Kept:
+        def __init__(self):
+            self.lock = threading.Lock()  # @kept_made
+
+        def __del__(self):
+            with self.lock:  # @kept
+                pass
+
+    threading.kept = Kept()
+
+
+@program
 def stray():
     thread = threading.Thread(target=a.acquire)  # @stray_acquire
     thread.start()  # @stray_start

@@ -102,5 +102,15 @@ def test_calls_that_no_function_of_python_makes():
     assert "Exception ignored" not in run.said, run.said
 
 
+def test_finalizer_at_the_end_of_the_interpreter():
+    run = expect(
+        "finalizer_at_the_end",
+        """
+        main|acq(Lock@@kept_made#1)|@kept
+        main|rel(Lock@@kept_made#1)|@kept""",
+    )
+    assert "Exception ignored" not in run.said, run.said
+
+
 def test_exit_without_an_end():
     expect("leaves_at_once", PAIR, status=5)
