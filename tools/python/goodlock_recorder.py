@@ -173,6 +173,7 @@ class RecordedLock:
 
 class Lock(RecordedLock):
     __slots__ = ()
+    __module__ = "threading"  # where it is known by its name, as what is pickled asks for
 
     make_raw = staticmethod(allocate_lock)
 

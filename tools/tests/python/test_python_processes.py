@@ -46,6 +46,15 @@ def test_program_has_the_variables_of_who_asked():
     assert told.stdout == b"one two\n", told.stdout + told.stderr
 
 
+def test_pickled_name_of_the_locks():
+    """A process that isn't recorded finds them under it."""
+    code = "import pickle, threading; threading.Lock().acquire(); pickle.dump(threading.Lock, open('name', 'wb'))"
+    run = Run(PYTHON_RECORD, ["-c", code], ["--python", INTERPRETER])
+    assert run.status == 0, run.said
+    code = "import pickle, threading; print(pickle.load(open('name', 'rb')) is threading.Lock)"
+    assert subprocess.run([INTERPRETER, "-c", code], stdout=subprocess.PIPE).stdout == b"True\n"
+
+
 def test_child_process():
     run = record("children")
     assert run.status == 0, run.said
