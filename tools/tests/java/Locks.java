@@ -691,6 +691,49 @@ public class Locks {
         }
     }
 
+    static synchronized void deeper(int n) {
+        if (n % 3 == 0) {
+            deeperWithAnother(n + 1);
+        } else {
+            deeper(n + 1);
+        }
+    }
+
+    static void deeperWithAnother(int n) {
+        synchronized (new Object()) {
+            deeper(n + 1);
+        }
+    }
+
+    /** However the end of the stack ends methods and blocks, nothing is held afterwards. */
+    static void outOfStack() {
+        for (int i = 0; i < 4; i++) {
+            try {
+                deeper(1);
+            } catch (StackOverflowError expected) {
+                words[0].length();
+            }
+        }
+        synchronized (b) { // @after_overflow
+            words[0].length();
+        } // @after_overflow_end
+    }
+
+    /** As if the stack had ended in the recorder: it has an acquire of a monitor that wasn't entered. */
+    static void overflowInTheRecorder() throws Exception {
+        Class<?> recorder = Class.forName("goodlock.runtime.Recorder");
+        Object place = recorder.getMethod("place", String.class).invoke(null, "Locks.java:1");
+        java.lang.reflect.Field overflows = recorder.getDeclaredField("overflows");
+        overflows.setAccessible(true);
+        synchronized (b) { // @overflow_b
+            recorder.getMethod("monitorEnter", Object.class, int.class).invoke(null, a, place);
+            overflows.setInt(null, overflows.getInt(null) + 1);
+            synchronized (a) { // @overflow_a
+                words[0].length();
+            } // @overflow_a_end
+        } // @overflow_b_end
+    }
+
     static void halts() {
         monitors();
         Runtime.getRuntime().halt(5);

@@ -6,8 +6,8 @@ import re
 import subprocess
 
 import pytest
-from java_traces import JAVA_RECORD, MARKS, PAIR, all_of_java, expect, program, record, version_of
-from known_traces import NO_EVENTS, compare, cycles_in, expand, is_front_of_a_run, killed
+from java_traces import JAVA_RECORD, MARKS, PAIR, QUICK, all_of_java, expect, program, record, version_of
+from known_traces import NO_EVENTS, compare, cycles_in, expand, is_front_of_a_run, killed, others_of
 
 pytestmark = pytest.mark.usefixtures("classes")
 
@@ -36,6 +36,31 @@ def test_killed_at_any_moment():
 
 def test_exit_without_an_end():
     expect("halts", PAIR, status=5)
+
+
+@pytest.mark.parametrize("compiler", [QUICK, "-Xmixed"])
+def test_threads_that_run_out_of_stack(compiler):
+    """They go on as without the recorder, which loses nothing but what it was at."""
+    run = record(None, command=["java", compiler, "-cp", "classes", "Locks", "outOfStack"])
+    assert run.status == 0 and "lost" not in run.said, run.said
+    after = "main|acq(Object@@b#1)|@after_overflow\nmain|rel(Object@@b#1)|@after_overflow_end"
+    lines = [line for line in run.lines() if "|beyond(" not in line]
+    compare(lines[-2:], expand(after, MARKS))
+    assert others_of(lines)[1] == {"main": []}, "held at the end"
+
+
+def test_acquire_at_which_the_stack_ended():
+    """It ends before the next event; what the thread holds stays so."""
+    expect(
+        "overflowInTheRecorder",
+        """
+        main|acq(Object@@b#1)|@overflow_b
+        main|acq(Object@@a#1)|Locks.java:1
+        main|rel(Object@@a#1)|Locks.java:1
+        main|acq(Object@@a#1)|@overflow_a
+        main|rel(Object@@a#1)|@overflow_a_end
+        main|rel(Object@@b#1)|@overflow_b_end""",
+    )
 
 
 def test_child_process():

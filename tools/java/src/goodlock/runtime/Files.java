@@ -125,12 +125,12 @@ final class Files {
         }
         reserve(used, bytes);
         ByteBuffer chunk = extent.slice(used, bytes).order(ByteOrder.nativeOrder());
-        used += bytes;
         chunk.putInt(4, thread);
         chunk.putInt(8, order);
         chunk.putInt(12, bytes);
         chunk.putLong(USED_PLACE, usedWords);
         chunk.putInt(0, magic);
+        used += bytes;
         return chunk;
     }
 

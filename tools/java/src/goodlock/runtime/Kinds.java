@@ -134,6 +134,21 @@ final class Kinds {
         }
     }
 
+    /** Whether the present thread holds this lock; yes where nobody knows. */
+    static boolean isHeld(LockEntry entry) {
+        Object object = entry.get();
+        if (entry.monitor && object != null) {
+            return Thread.holdsLock(object);
+        }
+        if (object instanceof ReentrantLock) {
+            return ((ReentrantLock) object).isHeldByCurrentThread();
+        }
+        if (object instanceof ReentrantReadWriteLock.WriteLock) {
+            return ((ReentrantReadWriteLock.WriteLock) object).isHeldByCurrentThread();
+        }
+        return object != null;
+    }
+
     static boolean isCondition(Object object) {
         return object instanceof AbstractQueuedSynchronizer.ConditionObject
                 || object instanceof AbstractQueuedLongSynchronizer.ConditionObject;

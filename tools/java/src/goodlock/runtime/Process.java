@@ -9,7 +9,8 @@ import java.util.Map;
 
 /**
  * The recorded process. What is new (a lock, place or thread) is written by one thread at a time, which takes no lock of the
- * program's meanwhile. Where there is no room for more, events are lost and counted.
+ * program's meanwhile. Where there is no room for more, events are lost and counted. A thread that runs out of stack in here does it again,
+ * if it comes again.
  */
 final class Process {
     final boolean all;
@@ -41,6 +42,8 @@ final class Process {
     private ByteBuffer write(int kind, String text, long... numbers) {
         try {
             return full ? null : files.write(kind, text, numbers);
+        } catch (StackOverflowError overflow) {
+            throw overflow;
         } catch (IOException | Error failure) {
             full = true;
             return null;
@@ -54,6 +57,8 @@ final class Process {
     synchronized ByteBuffer newEvents(int thread, int order) {
         try {
             return full ? null : files.newEvents(thread, order);
+        } catch (StackOverflowError overflow) {
+            throw overflow;
         } catch (IOException | Error failure) {
             full = true;
             return null;
@@ -84,6 +89,8 @@ final class Process {
         ByteBuffer record = null;
         try {
             record = full ? null : files.writeThread(number, parent, child);
+        } catch (StackOverflowError overflow) {
+            throw overflow;
         } catch (IOException | Error failure) {
             full = true;
         }

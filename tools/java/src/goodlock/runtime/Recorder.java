@@ -22,6 +22,8 @@ public final class Recorder {
     private static final Identities<LockEntry> MONITORS = new Identities<>();
     private static final Identities<ThreadEntry> THREADS = new Identities<>();
     private static Process process;
+    /** How often a thread ran out of stack in here: what it did then may be written in part. */
+    static int overflows;
 
     private Recorder() {
     }
@@ -160,19 +162,28 @@ public final class Recorder {
 
     /** Before a monitor is entered, or just after where that can't be. */
     public static void monitorEnter(Object object, int site) {
-        ThreadState state = state();
-        if (object != null && !state.isOff()) {
-            state.acquire(ThreadState.ACQUIRE, at(state, site), monitorOf(state, object));
+        try {
+            ThreadState state = state();
+            if (object != null && !state.isOff()) {
+                state.acquire(ThreadState.ACQUIRE, at(state, site), monitorOf(state, object));
+            }
+        } catch (StackOverflowError overflow) {
+            overflows++;
+            throw overflow;
         }
     }
 
-    /** Before a monitor is left. */
+    /** Before a monitor is left, which it is in any case. */
     public static void monitorExit(Object object, int site) {
-        ThreadState state = state();
-        if (object != null && !state.isOff()) {
-            // The hash of a locked object is slow to get.
-            LockEntry last = state.lastEntry(object, true);
-            state.release(at(state, site), (last != null ? last : monitorOf(state, object)).number);
+        try {
+            ThreadState state = state();
+            if (object != null && !state.isOff()) {
+                // The hash of a locked object is slow to get.
+                LockEntry last = state.lastEntry(object, true);
+                state.release(at(state, site), (last != null ? last : monitorOf(state, object)).number);
+            }
+        } catch (StackOverflowError overflow) {
+            overflows++;
         }
     }
 
@@ -212,9 +223,14 @@ public final class Recorder {
 
     /** Before Lock.lock. */
     public static void lock(Object lock, int site) {
-        ThreadState state = state();
-        if (!isOff(state, lock, site, Kinds.LOCK)) {
-            acquires(state, lock, site);
+        try {
+            ThreadState state = state();
+            if (!isOff(state, lock, site, Kinds.LOCK)) {
+                acquires(state, lock, site);
+            }
+        } catch (StackOverflowError overflow) {
+            overflows++;
+            throw overflow;
         }
     }
 
@@ -253,7 +269,7 @@ public final class Recorder {
         LockEntry entry = lockOf(state, lock);
         if (taken) {
             int kind = entry.shared ? ThreadState.TRY_SHARED_ACQUIRE : ThreadState.TRY_ACQUIRE;
-            state.acquire(kind, at(state, site), entry.number);
+            state.acquire(kind, at(state, site), entry);
         } else {
             state.countOther();
         }
@@ -261,10 +277,17 @@ public final class Recorder {
 
     /** Before Lock.unlock, which fails if the thread doesn't hold the lock. */
     public static void unlock(Object lock, int site) {
-        ThreadState state = state();
-        if (isOff(state, lock, site, Kinds.UNLOCK)) {
-            return;
+        try {
+            ThreadState state = state();
+            if (!isOff(state, lock, site, Kinds.UNLOCK)) {
+                unlocks(state, lock, site);
+            }
+        } catch (StackOverflowError overflow) {
+            overflows++;
         }
+    }
+
+    private static void unlocks(ThreadState state, Object lock, int site) {
         LockEntry last = state.lastEntry(lock, false);
         int number = (last != null ? last : lockOf(state, lock)).number;
         if (state.holds(number)) {

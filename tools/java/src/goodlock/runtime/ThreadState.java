@@ -60,6 +60,8 @@ final class ThreadState {
     private int room;
     private int used;
     private int chunks;
+    /** Those of the recorder's when it was last sure what the thread holds. */
+    private int overflows;
 
     ThreadState(Process process, ByteBuffer record, int number) {
         this.process = process;
@@ -91,11 +93,10 @@ final class ThreadState {
     }
 
     private boolean nextChunk() {
-        ByteBuffer more = process.newEvents(number, chunks);
+        ByteBuffer more = process.newEvents(number, chunks++);
         if (more == null) {
             return false;
         }
-        chunks++;
         words = more;
         room = more.capacity() / 8;
         used = 0;
@@ -227,6 +228,7 @@ final class ThreadState {
     }
 
     void acquire(int kind, int site, int lock) {
+        settle();
         int index = find(lock);
         if (index >= 0 || heldCount == HELD_LIMIT) {
             acquireFurther(kind, site, lock, index);
@@ -321,6 +323,7 @@ final class ThreadState {
 
     /** Writes a release, or leaves it out with all since the thread last held as many locks as afterwards. */
     void release(int site, int lock) {
+        settle();
         if (heldCount > 0) {
             Held top = held[heldCount - 1];
             if (top.lock == lock && top.depth == 1 && top.newsBefore == news && top.place != NOWHERE && top.words == words) {
@@ -352,9 +355,29 @@ final class ThreadState {
         }
     }
 
+    /** After a thread ran out of stack in the recorder: acquires that didn't come about, and releases that aren't written, end here. */
+    private void settle() {
+        if (overflows == Recorder.overflows) {
+            return;
+        }
+        for (int index = heldCount - 1; index >= 0; index--) {
+            Held last = held[index];
+            if (last.entry != null && !Kinds.isHeld(last.entry)) {
+                int site = (int) (last.word >>> SITE_SHIFT) & (1 << OBJECT_SHIFT - SITE_SHIFT) - 1;
+                for (int depth = last.depth; depth > 0; depth--) {
+                    releaseFurther(site, last.lock);
+                }
+            }
+        }
+        if (heldCount == 0) {
+            overflows = Recorder.overflows;
+        }
+    }
+
     // --- Threads
 
     void fork(int site, int thread) {
+        settle();
         children++;
         count(Files.CHILDREN, 1);
         endSegment();
@@ -362,6 +385,7 @@ final class ThreadState {
     }
 
     void join(int site, int thread) {
+        settle();
         endSegment();
         store(word(JOIN, site, thread));
     }

@@ -189,9 +189,22 @@ final class MethodInstrumenter {
         if (hasCode(start, end)) {
             method.tryCatchBlocks.add(new TryCatchBlockNode(start, end, handler, null));
         }
+        addHandler(handler, at, exit);
+    }
+
+    /** Also where the thread has no stack for the recorder's call the monitor is left. */
+    private void addHandler(LabelNode handler, int at, int exit) {
+        LabelNode told = new LabelNode();
         method.instructions.add(handler);
         method.instructions.add(handlerFrame());
-        method.instructions.add(monitorCalls("monitorExit", at, exit));
+        method.instructions.add(monitorCalls("monitorExit", at, Opcodes.NOP));
+        method.instructions.add(told);
+        method.instructions.add(handlerFrame());
+        method.tryCatchBlocks.add(new TryCatchBlockNode(handler, told, told, null));
+        if (exit != Opcodes.NOP) {
+            method.instructions.add(pushMonitor());
+            method.instructions.add(new InsnNode(exit));
+        }
         method.instructions.add(new InsnNode(Opcodes.ATHROW));
     }
 
