@@ -27,6 +27,34 @@ public class Main {
     }
 }
 """
+# Asks other loaders for the JDK's classes alone, from the first instruction of its method on.
+LOADER = """
+import java.nio.file.Files;
+import java.nio.file.Path;
+
+public class Loader extends ClassLoader {
+    Loader() {
+        super(null);
+    }
+
+    @Override
+    protected synchronized Class<?> loadClass(String name, boolean resolve) throws ClassNotFoundException {
+        while (name.startsWith("java.")) {
+            return ClassLoader.getPlatformClassLoader().loadClass(name);
+        }
+        try {
+            byte[] code = Files.readAllBytes(Path.of("own", name.replace('.', '/') + ".class"));
+            return defineClass(name, code, 0, code.length);
+        } catch (java.io.IOException absent) {
+            throw new ClassNotFoundException(name);
+        }
+    }
+
+    public static void main(String[] words) throws Exception {
+        new Loader().loadClass(words[0]).getMethod("main", String[].class).invoke(null, (Object) null);
+    }
+}
+"""
 TRACE = """main|fork(main.1:Main.lambda)|Main.java:7
 main|join(main.1:Main.lambda)|Main.java:8
 main.1:Main.lambda|acq(Object@Main.java:3#1)|Main.java:12
@@ -50,6 +78,14 @@ def test_package_of_the_recorders_name():
 
 def test_classes_on_the_boot_class_path():
     expect_trace(in_package("booted"), "-Xbootclasspath/a:own", "booted.Main")
+
+
+def test_class_loader_that_asks_no_other_one():
+    compile_source("Loader", LOADER)
+    compile_source("Main", in_package("alone"))
+    run = record(None, command=["java", "-Xverify:all", "-cp", "own", "Loader", "alone.Main"])
+    assert run.status == 0, run.said
+    compare([line for line in run.lines() if "Loader" not in line], TRACE.split("\n"))
 
 
 def test_security_manager():

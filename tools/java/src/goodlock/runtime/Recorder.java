@@ -44,6 +44,15 @@ public final class Recorder {
         process.note(text);
     }
 
+    /** Whether this is the name of the class that instrumented code calls. */
+    public static boolean isRecorder(String name) {
+        return Recorder.class.getName().equals(name);
+    }
+
+    public static Class<?> itself() {
+        return Recorder.class;
+    }
+
     // --- The present thread
 
     private static ThreadState state() {

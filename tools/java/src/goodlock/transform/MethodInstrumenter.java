@@ -1,6 +1,7 @@
 package goodlock.transform;
 
 import goodlock.runtime.Recorder;
+import java.util.Set;
 import org.objectweb.asm.Opcodes;
 import org.objectweb.asm.Type;
 import org.objectweb.asm.tree.AbstractInsnNode;
@@ -9,6 +10,7 @@ import org.objectweb.asm.tree.FrameNode;
 import org.objectweb.asm.tree.InsnList;
 import org.objectweb.asm.tree.InsnNode;
 import org.objectweb.asm.tree.InvokeDynamicInsnNode;
+import org.objectweb.asm.tree.JumpInsnNode;
 import org.objectweb.asm.tree.LabelNode;
 import org.objectweb.asm.tree.LdcInsnNode;
 import org.objectweb.asm.tree.LineNumberNode;
@@ -21,6 +23,8 @@ import org.objectweb.asm.tree.VarInsnNode;
 final class MethodInstrumenter {
     static final String RECORDER = "goodlock/runtime/Recorder";
     private static final String OBJECT_AND_SITE = "(Ljava/lang/Object;I)V";
+    private static final Set<String> LOADS_CLASSES =
+            Set.of("(Ljava/lang/String;)Ljava/lang/Class;", "(Ljava/lang/String;Z)Ljava/lang/Class;");
     private static final String UNSEEN_METHODS = "%d synchronized methods of an old or unusual form: their monitors aren't recorded";
 
     private final ClassNode owner;
@@ -68,7 +72,28 @@ final class MethodInstrumenter {
         if ((method.access & Opcodes.ACC_SYNCHRONIZED) != 0) {
             synchronizedMethod();
         }
+        if (method.name.equals("loadClass") && LOADS_CLASSES.contains(method.desc) && (method.access & Opcodes.ACC_STATIC) == 0) {
+            findRecorder();
+        }
         return changed;
+    }
+
+    /** A class loader that asks no other one, as those of OSGi, finds the recorder all the same. */
+    private void findRecorder() {
+        LabelNode other = new LabelNode();
+        InsnList hook = new InsnList();
+        hook.add(new VarInsnNode(Opcodes.ALOAD, 1));
+        hook.add(call("isRecorder", "(Ljava/lang/String;)Z"));
+        hook.add(new JumpInsnNode(Opcodes.IFEQ, other));
+        hook.add(call("itself", "()Ljava/lang/Class;"));
+        hook.add(new InsnNode(Opcodes.ARETURN));
+        hook.add(other);
+        boolean resolves = Type.getArgumentTypes(method.desc).length > 1;
+        Object[] locals = {owner.name, "java/lang/String", Opcodes.INTEGER};
+        hook.add(new FrameNode(Opcodes.F_NEW, resolves ? 3 : 2, locals, 0, new Object[0]));
+        hook.add(new InsnNode(Opcodes.NOP));
+        method.instructions.insert(hook);
+        changed = true;
     }
 
     // --- Places
