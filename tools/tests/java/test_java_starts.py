@@ -3,8 +3,8 @@
 import os
 
 import pytest
-from java_traces import all_of_java, compile_source, record, version_of
-from known_traces import compare
+from java_traces import JAVA_RECORD, MARKS, PAIR, all_of_java, compile_source, program, record, version_of
+from known_traces import NO_EVENTS, compare, expand, read_lines
 
 pytestmark = pytest.mark.usefixtures("classes")
 
@@ -86,6 +86,13 @@ def test_class_loader_that_asks_no_other_one():
     run = record(None, command=["java", "-Xverify:all", "-cp", "own", "Loader", "alone.Main"])
     assert run.status == 0, run.said
     compare([line for line in run.lines() if "Loader" not in line], TRACE.split("\n"))
+
+
+def test_recorder_that_runs_the_recorder():
+    """The JVM has two agents then, of which the first one records, for the inner recorder."""
+    run = record(None, command=[JAVA_RECORD, "-o", "inner.std", "--", *program("monitors")])
+    assert run.status == NO_EVENTS, run.said
+    compare(read_lines("inner.std"), expand(PAIR, MARKS))
 
 
 def test_security_manager():

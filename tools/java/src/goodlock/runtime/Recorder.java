@@ -36,6 +36,10 @@ public final class Recorder {
         Kinds.start();
     }
 
+    static boolean isStarted() {
+        return process != null;
+    }
+
     public static int place(String text) {
         return process.place(text);
     }

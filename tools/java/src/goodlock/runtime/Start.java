@@ -45,8 +45,8 @@ public final class Start {
     public static void start(String classPath, Instrumentation instrumentation) {
         AccessController.doPrivileged((PrivilegedAction<Void>) () -> {
             String directory = System.getenv("GOODLOCK_JAVA_DIRECTORY");
-            if (directory == null) {
-                return null;
+            if (directory == null || Recorder.isStarted()) {
+                return null; // two agents: goodlock-java runs goodlock-java
             }
             try {
                 open(instrumentation);
