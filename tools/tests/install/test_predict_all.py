@@ -128,6 +128,28 @@ def test_one_thread_reads_a_trace_where_several_are_predicted(path, words, optio
     assert list(reports().values()) == [["predict", "--json", *asked]] * 2
 
 
+def test_a_trace_may_be_named_twice(path):
+    """Both are predicted at once: the stand-in waits for the other one before it writes, and before it ends."""
+    write("traces/a.std", TRACE)
+    meets = "mkdir $1.$$; while [ $(ls -d $1.* | wc -l) -lt 2 ]; do sleep 0.01; done"
+    write("stand-in", f"#!/bin/sh\nmeet() {{ {meets}; }}\ncat >/dev/null\nmeet began\necho '{{}}'\nmeet wrote\n")
+    os.chmod("stand-in", 0o755)
+    words = ["-j", "2", "traces", "traces/a.std"]
+    assert predict_all(path, "--program", "./stand-in", *words) == (0, "", "")
+    assert reports() == {"traces/a.std.json": {}}
+
+
+def test_nothing_is_left_where_temporary_files_are(path, tmp_path, monkeypatch):
+    """Not even while traces are predicted: so whatever ends it then, nothing is."""
+    write("a.std", TRACE)
+    (tmp_path / "temporary").mkdir()
+    monkeypatch.setenv("TMPDIR", str(tmp_path / "temporary"))
+    write("stand-in", f"#!/bin/sh\ncat >/dev/null\nls '{tmp_path}/temporary' | wc -l\n")
+    os.chmod("stand-in", 0o755)
+    assert predict_all(path, "--program", "./stand-in", "a.std") == (0, "", "")
+    assert reports() == {"a.std.json": 0}
+
+
 def test_a_program_that_fails_leaves_no_report(path):
     write("a.std", TRACE)
     write("stand-in", "#!/bin/sh\necho '{\"half'\necho 'goodlock: write failed' >&2\nexit 4\n")
