@@ -212,6 +212,16 @@ def test_a_link_to_a_finding_opens_it(driver):
     assert value(driver, f"document.getElementById('{name}').open") is True
 
 
+def test_a_link_to_no_finding_leaves_the_page_as_it_is(driver):
+    many_findings()
+    show(driver, 1200)
+    for name in ("#50%", "#%ff", "#none", "#"):
+        driver.get("about:blank")
+        driver.get(pathlib.Path("p.html").resolve().as_uri() + name)
+        assert value(driver, "document.getElementById('shown').textContent") == "6 of 6 shown", name
+    assert driver.get_log("browser") == []
+
+
 def test_on_paper_all_findings_are_open_and_dark_on_white(driver):
     many_findings()
     show(driver, 1200, "dark")

@@ -5,7 +5,7 @@
   const control = (name) => document.getElementById(name);
 
   function openTarget() {
-    const target = document.getElementById(decodeURIComponent(location.hash.slice(1)));
+    const target = document.getElementById(location.hash.slice(1));
     if (target && target.matches("details.finding")) target.open = true;
   }
   window.addEventListener("hashchange", openTarget);
