@@ -734,6 +734,11 @@ public class Locks {
         } // @overflow_b_end
     }
 
+    static void shutdownHook() {
+        Runtime.getRuntime().addShutdownHook(new Thread(() -> both(b, a), "hook"));
+        both(a, b);
+    }
+
     static void halts() {
         monitors();
         Runtime.getRuntime().halt(5);

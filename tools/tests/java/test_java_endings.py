@@ -63,6 +63,14 @@ def test_acquire_at_which_the_stack_ended():
     )
 
 
+def test_shutdown_hook_comes_after_main():
+    """The thread that starts it is that of main."""
+    run = record("shutdownHook")
+    assert run.status == 0 and "2 threads" in run.said, run.said
+    assert [line.split("|")[1] for line in run.lines() if "fork" in line] == ["fork(main.1:hook)"]
+    assert cycles_in(run.lines()) == 0, run.lines()
+
+
 def test_child_process():
     run = record("child")
     assert run.status == 0, run.said

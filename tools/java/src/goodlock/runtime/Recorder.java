@@ -22,6 +22,9 @@ public final class Recorder {
     private static final Identities<LockEntry> MONITORS = new Identities<>();
     private static final Identities<ThreadEntry> THREADS = new Identities<>();
     private static Process process;
+    /** The JVM's first thread, and its object. */
+    private static ThreadState first;
+    private static Thread firstThread;
     /** How often a thread ran out of stack in here: what it did then may be written in part. */
     static int overflows;
 
@@ -31,7 +34,9 @@ public final class Recorder {
     /** Called once, by the first thread. */
     public static void start(String directory, long number, String command, int frames, boolean all) throws IOException {
         process = new Process(directory, number, command, frames, all);
-        STATE.set(process.newThread(0, 0, null));
+        first = process.newThread(0, 0, null);
+        firstThread = Thread.currentThread();
+        STATE.set(first);
         Places.start(frames);
         Kinds.start();
     }
@@ -73,7 +78,7 @@ public final class Recorder {
             entry = entry != null ? entry : THREADS.find(thread);
             if (entry == null) {
                 boolean virtual = isVirtual(thread);
-                state = virtual ? new ThreadState(process, null, 0) : process.newThread(FOREIGN, 0, null);
+                state = virtual ? new ThreadState(process, null, 0) : isFirst(thread) ? first : process.newThread(FOREIGN, 0, null);
                 if (virtual) {
                     process.note(VIRTUAL);
                 }
@@ -83,6 +88,11 @@ public final class Recorder {
         }
         STATE.set(entry.state);
         return entry.state;
+    }
+
+    /** When main has ended its thread becomes another object, which starts the shutdown hooks. */
+    private static boolean isFirst(Thread thread) {
+        return thread.getName().equals("DestroyJavaVM") && !firstThread.isAlive();
     }
 
     private static boolean isVirtual(Thread thread) {
