@@ -765,6 +765,13 @@ public class Locks {
         System.out.println(java.io.ObjectStreamClass.lookup(Serial.class).getSerialVersionUID());
     }
 
+    static void fields() {
+        for (java.lang.reflect.Field field : Account.class.getDeclaredFields()) {
+            System.out.println(field + " " + field.isSynthetic());
+        }
+        new Account().add(1);
+    }
+
     static void queue() {
         ConcurrentLinkedQueue<Integer> queue = new ConcurrentLinkedQueue<>();
         java.util.Vector<Integer> vector = new java.util.Vector<>();

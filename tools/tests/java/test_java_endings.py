@@ -84,6 +84,14 @@ def test_serial_versions_stay():
     assert record("serial").out == plain != "", "another serial version"
 
 
+def test_fields_of_classes_stay():
+    """That of a serial version is marked as none of the program's own."""
+    run = record("fields")
+    assert run.status == 0, run.said
+    fields = ["int Locks$Account.money false", "private static final long Locks$Account.serialVersionUID true"]
+    assert sorted(run.out.splitlines()) == fields
+
+
 def test_classes_of_the_jdk_on_demand():
     run = record("queue")
     assert run.status == NO_EVENTS, "%d %s" % (run.status, run.said)

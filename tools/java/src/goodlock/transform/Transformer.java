@@ -134,7 +134,7 @@ public final class Transformer implements ClassFileTransformer {
         reader.accept(new SerialVersionUIDAdder(Opcodes.ASM9, null) {
             @Override
             protected void addSVUID(long identity) {
-                int access = Opcodes.ACC_STATIC | Opcodes.ACC_FINAL;
+                int access = Opcodes.ACC_PRIVATE | Opcodes.ACC_STATIC | Opcodes.ACC_FINAL | Opcodes.ACC_SYNTHETIC;
                 node.fields.add(new FieldNode(access, "serialVersionUID", "J", null, identity));
             }
         }, ClassReader.SKIP_CODE);
