@@ -719,6 +719,30 @@ public class Locks {
         } // @after_overflow_end
     }
 
+    static Object[] all;
+
+    static void fill() {
+        synchronized (a) {
+            while (true) {
+                all = new Object[] {all};
+            }
+        }
+    }
+
+    /** An error ends the block where there is no memory for anything else either. */
+    static void outOfMemory() {
+        for (int i = 0; i < 3; i++) {
+            try {
+                fill();
+            } catch (OutOfMemoryError expected) {
+                all = null;
+            }
+        }
+        synchronized (b) { // @after_memory
+            words[0].length();
+        } // @after_memory_end
+    }
+
     /** As if the stack had ended in the recorder: it has an acquire of a monitor that wasn't entered. */
     static void overflowInTheRecorder() throws Exception {
         Class<?> recorder = Class.forName("goodlock.runtime.Recorder");

@@ -49,6 +49,16 @@ def test_threads_that_run_out_of_stack(compiler):
     assert others_of(lines)[1] == {"main": []}, "held at the end"
 
 
+def test_thread_that_runs_out_of_memory():
+    """With callers the recorder needs some at each event; the thread leaves its monitors without."""
+    command = ["java", QUICK, "-Xmx24m", "-XX:+UseSerialGC", "-cp", "classes", "Locks", "outOfMemory"]
+    run = record(None, "--frames", "2", command=command)
+    assert run.status == 0, run.said
+    words = [line.split("<")[0] for line in run.lines()]
+    compare(words[-2:], expand("main|acq(Object@@b#1)|@after_memory\nmain|rel(Object@@b#1)|@after_memory_end", MARKS))
+    assert others_of(run.lines())[1] == {"main": []}, "held at the end"
+
+
 def test_acquire_at_which_the_stack_ended():
     """It ends before the next event; what the thread holds stays so."""
     expect(

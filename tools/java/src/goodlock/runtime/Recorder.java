@@ -25,7 +25,7 @@ public final class Recorder {
     /** The JVM's first thread, and its object. */
     private static ThreadState first;
     private static Thread firstThread;
-    /** How often a thread ran out of stack in here: what it did then may be written in part. */
+    /** How often a thread ran out of stack or memory in here: what it did then may be written in part. */
     static int overflows;
 
     private Recorder() {
@@ -190,7 +190,7 @@ public final class Recorder {
             if (object != null && !state.isOff()) {
                 state.acquire(ThreadState.ACQUIRE, at(state, site), monitorOf(state, object));
             }
-        } catch (StackOverflowError overflow) {
+        } catch (VirtualMachineError overflow) {
             overflows++;
             throw overflow;
         }
@@ -205,7 +205,7 @@ public final class Recorder {
                 LockEntry last = state.lastEntry(object, true);
                 state.release(at(state, site), (last != null ? last : monitorOf(state, object)).number);
             }
-        } catch (StackOverflowError overflow) {
+        } catch (VirtualMachineError overflow) {
             overflows++;
         }
     }
@@ -251,7 +251,7 @@ public final class Recorder {
             if (!isOff(state, lock, site, Kinds.LOCK)) {
                 acquires(state, lock, site);
             }
-        } catch (StackOverflowError overflow) {
+        } catch (VirtualMachineError overflow) {
             overflows++;
             throw overflow;
         }
@@ -305,7 +305,7 @@ public final class Recorder {
             if (!isOff(state, lock, site, Kinds.UNLOCK)) {
                 unlocks(state, lock, site);
             }
-        } catch (StackOverflowError overflow) {
+        } catch (VirtualMachineError overflow) {
             overflows++;
         }
     }

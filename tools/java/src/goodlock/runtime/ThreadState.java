@@ -355,7 +355,7 @@ final class ThreadState {
         }
     }
 
-    /** After a thread ran out of stack in the recorder: acquires that didn't come about, and releases that aren't written, end here. */
+    /** After a thread ran out of stack or memory in the recorder: acquires that didn't come about, and releases that aren't written, end here. */
     private void settle() {
         if (overflows == Recorder.overflows) {
             return;
