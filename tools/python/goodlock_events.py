@@ -321,11 +321,13 @@ class Places:
         return tuple(key)
 
     def text_of(self, frame):
+        """A line for each frame. A file's name may have line ends in it, which are shown as other marks that can't be in a name."""
         texts = []
         while frame is not None and len(texts) < self.frames:
             self.kept.append(frame.f_code)
-            if frame.f_code.co_filename not in self.own:
-                texts.append("%s:%d" % (frame.f_code.co_filename, frame.f_lineno or 0))
+            name = frame.f_code.co_filename
+            if name not in self.own:
+                texts.append("%s:%d" % (name.replace("\n", "?"), frame.f_lineno or 0))
             frame = frame.f_back
         return "\n".join(texts)
 

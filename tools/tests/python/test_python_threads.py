@@ -2,8 +2,9 @@
 
 import re
 
-from known_traces import compare, edges_of, expand
-from python_traces import MARKS, PAIR, expect, record
+import pytest
+from known_traces import Run, compare, edges_of, expand
+from python_traces import INTERPRETER, MARKS, PAIR, PYTHON_RECORD, expect, record
 
 
 def test_threads_made_and_joined():
@@ -112,6 +113,15 @@ def test_names_that_are_long():
     for thread in (name, "main.2:short!?"):
         text += "\nmain|fork(%s)|@long_start\nmain|join(%s)|@long_join" % (thread, thread)
     expect("long_names", text + PAIR.replace("main|", name + "|") + PAIR.replace("main|", "main.2:short!?|"))
+
+
+@pytest.mark.parametrize("frames, places", [("1", "of?two.py:4"), ("2", "of?two.py:4<of?two.py:6")])
+def test_names_of_files_with_line_ends(frames, places):
+    """A line end is another mark there, so that a place stays one."""
+    with open("of\ntwo.py", "w") as file:
+        file.write("import threading\nlock = threading.Lock()\ndef take():\n    with lock:\n        pass\ntake()\n")
+    run = Run(PYTHON_RECORD, ["of\ntwo.py"], ["--python", INTERPRETER, "--frames", frames])
+    compare(run.lines(), ["main|%s(Lock@of?two.py:2#1)|%s" % (word, places) for word in ("acq", "rel")])
 
 
 def test_repeats_are_left_out():
