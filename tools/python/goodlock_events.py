@@ -297,12 +297,14 @@ class Places:
         self.kept = []  # the code whose identities are keys
 
     def first_frame(self, frame):
-        """The innermost frame of the program's own; where there is none, the innermost that isn't of a passed over file."""
+        """The innermost frame of the program's own; where there is none, the innermost that isn't of a passed over file. What such a
+        file does while it is imported nobody called for: that has its own place, whoever imports it."""
         passed_over = self.passed_over
         start = frame
         while frame is not None:
-            name = frame.f_code.co_filename
-            if name not in passed_over and (name[:1] != "<" or not is_generated(frame.f_code)):
+            code = frame.f_code
+            name = code.co_filename
+            if name not in passed_over and (name[:1] != "<" or not is_generated(code)) or code.co_name == "<module>":
                 break
             frame = frame.f_back
         if frame is None:

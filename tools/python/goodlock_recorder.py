@@ -202,12 +202,14 @@ class RLock(RecordedLock):
         return self._raw._release_save()
 
 
+def is_standard(file):
+    """Whether this is a file of the standard library."""
+    return file.startswith("<frozen ") or file.startswith(STANDARD_PREFIX) and not file.startswith(INSTALLED)
+
+
 def allocate_raw_lock():
     """Stands for _thread.allocate_lock: the standard library's own locks stay as they are."""
-    file = caller().f_code.co_filename
-    if file.startswith("<frozen ") or file.startswith(STANDARD_PREFIX) and not file.startswith(INSTALLED):
-        return allocate_lock()
-    return Lock()
+    return allocate_lock() if is_standard(caller().f_code.co_filename) else Lock()
 
 
 def allocate_lock_seen():
@@ -231,8 +233,15 @@ def semaphore_start(self, value=1):
     self._goodlock_known = None
     if value == 1:
         self._goodlock_known = recorder.made(type(self).__name__, False, caller())
-    else:
+    elif is_made_by_program(caller()):
         recorder.process.note(SEMAPHORES_UNSEEN)
+
+
+def is_made_by_program(frame):
+    """Whether a semaphore that is made in this frame is the program's own. Each pool of threads has one, to count those that wait."""
+    while frame is not None and frame.f_code.co_filename == THREADING:  # the constructor of another class of semaphores
+        frame = frame.f_back
+    return frame is None or not is_standard(frame.f_code.co_filename)
 
 
 @functools.wraps(real_semaphore_acquire)

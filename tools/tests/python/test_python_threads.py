@@ -60,6 +60,14 @@ def test_thread_pools():
     )
 
 
+def test_pools_own_locks():
+    """The lock of all pools has its own place, as nobody called for it. The semaphore of each one is none of the program's."""
+    run = record("pool")
+    (place,) = set(re.findall(r"\(Lock@(.*)#1\)", "\n".join(run.lines()))) - {MARKS["a"], MARKS["b"]}
+    assert re.fullmatch(r"thread\.py:\d+", place), place
+    assert "semaphores" not in run.said, run.said
+
+
 def test_exceptions_that_leave_a_block():
     expect(
         "exceptions",
