@@ -384,6 +384,7 @@ def stand_before_threading():
     threading._CRLock = RLock
     threading._allocate_lock = allocate_lock_seen
     _thread.allocate_lock = _thread.allocate = allocate_raw_lock
+    threading.Semaphore._goodlock_known = None  # of those that were made before, or without that constructor
     threading.Semaphore.__init__ = semaphore_start
     threading.Semaphore.acquire = threading.Semaphore.__enter__ = semaphore_acquire
     for kind in real_releases:

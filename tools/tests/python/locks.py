@@ -271,6 +271,22 @@ def semaphore_as_signal():
         semaphore.acquire()
 
 
+class OwnSemaphore(threading.Semaphore):
+    """Its constructor doesn't call the other one."""
+
+    def __init__(self):
+        self._cond = threading.Condition(threading.Lock())
+        self._value = 1
+
+
+@program
+def semaphore_with_a_constructor_of_its_own():
+    semaphore = OwnSemaphore()
+    with semaphore:
+        assert not semaphore.acquire(False)
+        pair()
+
+
 class Worker(threading.Thread):
     def run(self):
         pass

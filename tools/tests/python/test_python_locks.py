@@ -1,8 +1,8 @@
 """Locks, conditions and semaphores: whole traces, and how many cycles they have."""
 
 import pytest
-from known_traces import Run, edges_of
-from python_traces import LOCKS, MARKS, PYTHON_RECORD, all_interpreters, expect, expect_cycles
+from known_traces import Run, compare, edges_of, expand
+from python_traces import LOCKS, MARKS, PAIR, PYTHON_RECORD, all_interpreters, expect, expect_cycles, record
 
 
 def test_mutexes():
@@ -178,6 +178,14 @@ def test_other_semaphores_are_none():
     )
     assert "1 semaphores were made with another value than 1" in run.said, run.said
     assert "1 semaphores of value 1 were released by threads that didn't hold them" in run.said, run.said
+
+
+def test_semaphore_with_a_constructor_of_its_own():
+    """What the recorder doesn't know of works as without it."""
+    run = record("semaphore_with_a_constructor_of_its_own")
+    assert run.status == 0, run.said
+    known = ["(Lock@%s#1)" % MARKS[name] for name in ("a", "b")]
+    compare([line for line in run.lines() if any(lock in line for lock in known)], expand(PAIR, MARKS))
 
 
 def test_locks_of_the_thread_module():
