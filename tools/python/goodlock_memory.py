@@ -15,17 +15,19 @@ VIEW_WRITE = 0x200  # PyBUF_WRITE
 
 
 def c_functions():
-    """mmap and madvise of the C library, the number of their last error, and what makes a view of memory; None without ctypes."""
+    """mmap and madvise of the C library, the number of their last error, and what makes a view of memory; None without ctypes, or where
+    it finds no library, as in an interpreter that is linked statically."""
     try:
         import ctypes
-    except ImportError:
+
+        library = ctypes.CDLL(None, use_errno=True)
+        view = ctypes.PyDLL(None).PyMemoryView_FromMemory
+    except (ImportError, OSError, AttributeError):
         return None
     size, number, address = ctypes.c_size_t, ctypes.c_int, ctypes.c_void_p
-    library = ctypes.CDLL(None, use_errno=True)
     library.mmap.restype = address
     library.mmap.argtypes = [address, size, number, number, number, ctypes.c_long]
     library.madvise.argtypes = [address, size, number]
-    view = ctypes.PyDLL(None).PyMemoryView_FromMemory
     view.restype = ctypes.py_object
     view.argtypes = [address, ctypes.c_ssize_t, number]
     return library.mmap, library.madvise, ctypes.get_errno, view

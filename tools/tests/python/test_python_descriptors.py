@@ -122,10 +122,12 @@ def test_locks_taken_after_all_was_closed(when):
     assert cycles_in(run.lines()) == 1, "\n".join(run.lines())
 
 
-def test_interpreter_without_ctypes():
+@pytest.mark.parametrize("error", ["ImportError", "OSError", "AttributeError"])
+def test_interpreter_without_ctypes(error):
+    """Or with one that finds no library."""
     os.mkdir("modules")
     with open("modules/ctypes.py", "w") as file:
-        file.write("raise ImportError\n")
+        file.write("raise %s\n" % error)
     run = run_text(CLOSES, "late", environment={**os.environ, "PYTHONPATH": "modules"})
     assert run.status == 0 and "lost" not in run.said, run.said
     assert cycles_in(run.lines()) == 1, "\n".join(run.lines())
