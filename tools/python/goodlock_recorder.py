@@ -207,20 +207,6 @@ def is_standard(file):
     return file.startswith("<frozen ") or file.startswith(STANDARD_PREFIX) and not file.startswith(INSTALLED)
 
 
-def depth_of(lock):
-    """How often this thread holds a lock that it has just released."""
-    if not issubclass(type(lock), RLock) or not lock._raw._is_owned():
-        return 0
-    return int(repr(lock._raw).split("count=")[1].split()[0])
-
-
-def interrupted(lock, error, frame):
-    """What a release raised: an error of the lock's own, which wasn't released, or the exception of a signal's handler, just after it
-    was."""
-    if not issubclass(type(error), RuntimeError) or error.__traceback__.tb_next is not None:
-        recorder.settles(lock._known, frame, depth_of(lock))
-
-
 def allocate_raw_lock():
     """Stands for _thread.allocate_lock: the standard library's own locks stay as they are."""
     return allocate_lock() if is_standard(caller().f_code.co_filename) else Lock()
@@ -248,7 +234,7 @@ def semaphore_start(self, value=1):
     if value == 1:
         self._goodlock_known = recorder.made(type(self).__name__, False, caller())
     elif is_made_by_program(caller()):
-        recorder.note(SEMAPHORES_UNSEEN)
+        recorder.process.note(SEMAPHORES_UNSEEN)
 
 
 def is_made_by_program(frame):
@@ -324,7 +310,9 @@ def thread_start(self):
     try:
         real_start(self)
     except BaseException:
-        if plan is not None and not self._started.is_set():
+        # The exception of a signal's handler may come after the thread was made: then it is among those that begin, until it runs.
+        begins = any(thread is self for thread in list(threading._limbo.values()))
+        if plan is not None and not begins and not self._started.is_set():
             recorder.not_started(plan)
         raise
 

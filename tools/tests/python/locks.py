@@ -320,6 +320,34 @@ def threads():
     late.join()  # @late_join
 
 
+class InterruptedStart(threading.Event):
+    """Who waits for the thread's beginning is interrupted before it begins."""
+
+    def __init__(self):
+        super().__init__()
+        self.interrupted = queue.SimpleQueue()
+
+    def wait(self, timeout=None):
+        raise KeyboardInterrupt
+
+    def set(self):
+        self.interrupted.get()
+        super().set()
+
+
+@program
+def interrupted_start():
+    thread = threading.Thread(target=pair)
+    started = thread._started = InterruptedStart()
+    try:
+        thread.start()  # @interrupted_start
+    except KeyboardInterrupt:
+        started.interrupted.put(1)
+    while not started.is_set():
+        time.sleep(0.001)
+    thread.join()  # @interrupted_join
+
+
 class AnswersAll:
     """Each attribute of it is such an object."""
     answers = 100

@@ -29,6 +29,15 @@ def test_threads_made_and_joined():
     compare(lines, expand("\n".join(text), MARKS))
 
 
+def test_thread_whose_start_is_interrupted():
+    """It begins all the same, and is recorded."""
+    run = record("interrupted_start")
+    assert run.status == 0, run.said
+    text = "main|fork(main.1:pair)|@interrupted_start\nmain|join(main.1:pair)|@interrupted_join"
+    lines = [line for line in run.lines() if "InterruptedStart" not in line]
+    compare(lines, expand(text + PAIR.replace("main|", "main.1:pair|"), MARKS))
+
+
 def test_routines_that_are_odd_objects():
     """As mocks, which have any attribute that is asked for: they have no name, and are run."""
     text = "".join("\nmain|fork(main.%d)|@odd_start\nmain|join(main.%d)|@odd_join" % (i, i) for i in (1, 2, 3))
