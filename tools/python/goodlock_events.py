@@ -567,9 +567,9 @@ class Recorder:
     def waits(self, known, frame):
         self.do(wait, known, frame)
 
-    def forgotten(self, known, frame):
-        """The lock was made free without a release."""
-        self.do(settle_all, known, frame)
+    def settles(self, known, frame, depth):
+        """The thread holds the lock so often, whatever of its last call was recorded."""
+        self.do(settle_to, known, frame, depth)
 
     # Threads
 
@@ -670,6 +670,8 @@ def settle(state, call):
         state.release_further(call)
 
 
-def settle_all(state, call):
-    while state.find(call >> OBJECT_SHIFT) is not None:
+def settle_to(state, call, depth):
+    """The thread holds this lock no more often than so."""
+    held = state.find(call >> OBJECT_SHIFT)
+    for _ in range(held.depth - depth if held is not None else 0):
         state.release(call)

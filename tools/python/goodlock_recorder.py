@@ -18,6 +18,8 @@ from goodlock_files import Files, Mark
 
 FRAMES_LIMIT = 16
 AGAIN = 3  # in a token of an acquire: the thread seemed to hold the lock already
+ONCE = (True,)  # for a call that is made once, by `map`
+AFTER_YIELD = 2  # in the instruction that begins a function, from Python 3.11 on: it doesn't look whether a signal came
 
 # Modules whose frames stand for their callers.
 STANDARD = os.path.dirname(threading.Thread.start.__code__.co_filename)
@@ -62,6 +64,16 @@ def caller():
 # --- Locks ------------------------------------------------------------------------------------------------
 
 
+def without_look(function):
+    """The same function, which doesn't look whether a signal came before its first line, as any other one does from Python 3.11 on (before,
+    it doesn't if that is a `try`). The handler's exception would be raised there, and what the function is to do would be left out.
+    """
+    code = function.__code__.co_code
+    if sys.version_info >= (3, 11) and code[:2] == without_look.__code__.co_code[:2]:
+        function.__code__ = function.__code__.replace(co_code=code[:1] + bytes([AFTER_YIELD]) + code[2:])
+    return function
+
+
 def made_by(frame):
     """What makes a lock: the name of the class of the standard library whose constructor does, and whether it is a lock of
     threads, of semaphores or of the threading module itself."""
@@ -97,52 +109,71 @@ class RecordedLock:
         return lock
 
     def acquire(self, blocking=True, timeout=-1):
-        raw = self._raw
         if blocking and timeout == -1:
-            token = recorder.wants(self._known, caller())
-            try:
-                taken = raw.acquire(blocking, timeout)
-            except BaseException:
-                recorder.gives_up(token)
-                raise
-            if token is not None and token[AGAIN]:
-                recorder.gives_up(token)  # it was another thread that released the lock
-            return taken
+            return RecordedLock.__enter__(self, caller())
         recorder.before_try()
-        taken = raw.acquire(blocking, timeout)
+        taken = []
         try:
-            if taken:
+            taken.extend(map(self._raw.acquire, (blocking,), (timeout,)))
+            if taken[0]:
                 recorder.took(self._known, caller())
             else:
                 recorder.did_not_take()
         except RecursionError:
-            pass  # the call of the program's would have ended well
-        return taken
-
-    def __enter__(self):
-        token = recorder.wants(self._known, caller())
-        try:
-            taken = self._raw.acquire()
+            if not taken:
+                raise
+            # Else the call of the program's would have ended well.
         except BaseException:
+            if taken and taken[0]:
+                self._raw.release()
+                recorder.settles(self._known, caller(), depth_of(self))
+            raise
+        return taken[0]
+
+    def __enter__(self, frame=None):
+        """An exception of a signal's handler may come just when the lock was taken. Then it is free again: a block that isn't begun
+        doesn't leave it."""
+        token, taken = recorder.wants(self._known, frame or caller()), []
+        try:
+            taken.extend(map(self._raw.acquire, ONCE))
+            if token is not None and token[AGAIN]:
+                recorder.gives_up(token)  # it was another thread that released the lock
+        except BaseException:
+            if taken:
+                self._raw.release()
             recorder.gives_up(token)
             raise
-        if token is not None and token[AGAIN]:
-            recorder.gives_up(token)
-        return taken
+        return taken[0]
 
+    @without_look
     def release(self):
-        self._raw.release()
+        try:
+            self._raw.release()
+        except BaseException as error:
+            interrupted(self, error, caller())
+            raise
         try:
             recorder.released(self._known, caller())
         except RecursionError:
             recorder.local.state.put_off.append((settle, self._known, "?", "?", ()))
+        except BaseException:
+            recorder.settles(self._known, caller(), depth_of(self))
+            raise
 
+    @without_look
     def __exit__(self, kind, value, traceback):
-        self._raw.release()
+        try:
+            self._raw.release()
+        except BaseException as error:
+            interrupted(self, error, caller())
+            raise
         try:
             recorder.released(self._known, caller())
         except RecursionError:
             recorder.local.state.put_off.append((settle, self._known, "?", "?", ()))
+        except BaseException:
+            recorder.settles(self._known, caller(), depth_of(self))
+            raise
 
     def __repr__(self):
         return repr(self._raw)
@@ -168,7 +199,7 @@ class RecordedLock:
 
     def _at_fork_reinit(self):
         self._raw._at_fork_reinit()
-        recorder.forgotten(self._known, caller())
+        recorder.settles(self._known, caller(), 0)
 
 
 class Lock(RecordedLock):
@@ -205,6 +236,20 @@ class RLock(RecordedLock):
 def is_standard(file):
     """Whether this is a file of the standard library."""
     return file.startswith("<frozen ") or file.startswith(STANDARD_PREFIX) and not file.startswith(INSTALLED)
+
+
+def depth_of(lock):
+    """How often this thread holds a lock that it has just released."""
+    if not issubclass(type(lock), RLock) or not lock._raw._is_owned():
+        return 0
+    return int(repr(lock._raw).split("count=")[1].split()[0])
+
+
+def interrupted(lock, error, frame):
+    """What a release raised: an error of the lock's own, which wasn't released, or the exception of a signal's handler, just after it
+    was."""
+    if not issubclass(type(error), RuntimeError) or error.__traceback__.tb_next is not None:
+        recorder.settles(lock._known, frame, depth_of(lock))
 
 
 def allocate_raw_lock():

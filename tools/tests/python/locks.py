@@ -570,6 +570,36 @@ def interrupted_at_last():
 
 
 @program
+def storm_of_exceptions():
+    """A signal's handler raises at any moment: however that ends a block, or keeps it from beginning, its locks are free then."""
+
+    class Late(Exception):
+        pass
+
+    def handle(*_):
+        raise Late
+
+    def locks():
+        while True:
+            with a:
+                with again:
+                    with again:
+                        pass
+
+    choose = random.Random(1)
+    signal.signal(signal.SIGALRM, handle)
+    for turn in range(1000):
+        try:
+            signal.setitimer(signal.ITIMER_REAL, choose.uniform(0.0001, 0.001))
+            locks()
+        except Late:
+            pass
+        assert not a.locked() and not again._is_owned(), "held at turn %d" % turn
+        with b:  # @storm_b
+            pass
+
+
+@program
 def storm():
     """Locks in a signal's handler and in finalizers, at any moment."""
     inner = [threading.Lock(), threading.RLock()]

@@ -3,7 +3,7 @@
 import random
 import re
 
-from known_traces import compare, cycles_in, expand, is_front_of_a_run, killed
+from known_traces import compare, cycles_in, edges_of, expand, is_front_of_a_run, killed, others_of
 from python_traces import INTERPRETER, LOCKS, MARKS, PAIR, PYTHON_RECORD, expect, record
 
 DEADLOCK = """
@@ -87,6 +87,14 @@ def test_locks_at_any_moment():
         depths[lock] = depths.get(lock, 0) + (1 if word == "acq" else -1)
     assert len(depths) == 5 and set(depths.values()) == {0}, "held at the end: %s" % depths
     assert len(run.lines()) < 3000, "%d lines" % len(run.lines())
+
+
+def test_exceptions_of_handlers_at_any_moment():
+    """They come where the recorder is, too, which leaves no lock held, and knows of none."""
+    run = record("storm_of_exceptions")
+    assert run.status == 0, run.said
+    assert others_of(run.lines())[1] == {"main": []}, "held at the end"
+    assert not [edge for edge in edges_of(run.lines()) if edge[2] == "Lock@%s#1" % MARKS["b"]], "something seemed held"
 
 
 def test_calls_that_no_function_of_python_makes():
