@@ -7,6 +7,7 @@ release is done wholly, or not at all.
 """
 
 from _thread import RLock, _local
+from errno import EDEADLK
 
 from goodlock_files import (
     FOREIGN,
@@ -35,6 +36,7 @@ DEPTH_LIMIT = 1000000  # goodlock takes no more acquires of a lock by a thread t
 # Words of the record of losses.
 LOST_LOCKS, LOST_PLACES, LOST_THREADS, LOST_REASON = 2, 3, 4, 5
 KEYS_LIMIT = 1 << 22
+BIRTHS_LIMIT = 10  # seconds that a thread waits to write what is new, where another thread may never be done with it
 
 
 class Held:
@@ -85,6 +87,10 @@ class ThreadState:
         self.words[place] = word
         self.place = place + 1
         return place
+
+    def lose(self):
+        """An event of a lock that has no number."""
+        self.record[THREAD_LOST] += 1
 
     def next_chunk(self):
         words = self.process.new_events(self.number, self.chunks)
@@ -336,10 +342,12 @@ class Places:
 
 class Process:
     """One recorded process. What is new is written under `births`, which no thread holds while it waits for a lock of the
-    program's."""
+    program's, but in a signal's handler or a finalizer, which comes at any moment. Where that waits for other threads, these go on after a
+    while, and what is new of them is lost."""
 
     def __init__(self, make_files, places, everything, command, mark, parent=None):
         self.births = RLock()
+        self.stuck = False
         self.places = places
         self.all = everything
         self.make_files = make_files
@@ -371,6 +379,20 @@ class Process:
             child.mark.count(getattr(error, "errno", None) or 0)
         return child
 
+    def is_stuck(self):
+        """Whether another thread has `births`, and goes on to have it."""
+        births = self.births
+        if births._is_owned():
+            return False
+        try:
+            self.stuck = not births.acquire(True, 0 if self.stuck else BIRTHS_LIMIT)
+        finally:
+            if births._is_owned():
+                births.release()
+        if self.stuck:
+            self.losses[LOST_REASON] = self.losses[LOST_REASON] or EDEADLK
+        return self.stuck
+
     def ask(self, call, *words):
         """What a call of the files gives; None if it fails, and then no further one is made."""
         try:
@@ -385,11 +407,16 @@ class Process:
         return None if self.full else self.ask(self.files.write, *record)
 
     def new_events(self, thread, order):
+        if self.is_stuck():
+            return None
         with self.births:
             return None if self.full else self.ask(self.files.new_events, thread, order)
 
     def new_thread(self, parent, child, routine):
         """Number and record of a new thread; the record is None if there is no room for it."""
+        if self.is_stuck():
+            self.losses[LOST_THREADS] += 1
+            return 0, None
         with self.births:
             number = self.next_thread
             self.next_thread += 1
@@ -408,6 +435,9 @@ class Process:
         return self.new_site(key, places.text_of(frame)) if site is None else site
 
     def new_site(self, key, text):
+        if self.is_stuck():
+            self.losses[LOST_PLACES] += 1
+            return 0
         with self.births:
             if key not in self.places.sites:
                 if self.write(RECORD_PLACE, [self.next_site], text) is None:
@@ -417,6 +447,9 @@ class Process:
             return self.places.sites[key]
 
     def number_of(self, known):
+        """The number of a lock at its first event; 0 where it can't have one yet."""
+        if self.is_stuck():
+            return 0
         with self.births:
             if known.number == 0:
                 number = self.next_lock
@@ -434,12 +467,15 @@ class Process:
         number = known.number or self.number_of(known)
         return number << OBJECT_SHIFT | self.site_of(frame) << SITE_SHIFT
 
-    def no_lock(self, known):
-        with self.births:
-            self.write(RECORD_NO_LOCK, [self.number_of(known)])
+    def no_lock(self, number):
+        if not self.is_stuck():
+            with self.births:
+                self.write(RECORD_NO_LOCK, [number])
 
     def note(self, text):
         """Counts a note; `%d` in it stands for how often."""
+        if self.is_stuck():
+            return
         with self.births:
             if text not in self.notes:
                 self.notes[text] = self.write(RECORD_NOTE, [0], text)
@@ -493,7 +529,7 @@ class Recorder:
         call = None
         try:
             call = self.process.call_of(known, frame)
-            return operation(state, call, *arguments)
+            return operation(state, call, *arguments) if call >> OBJECT_SHIFT else state.lose()
         except RecursionError:
             raise  # nothing was done
         except BaseException:
@@ -515,14 +551,27 @@ class Recorder:
                     continue
                 late = state.put_off.pop(0)
                 operation, known, key, text, arguments = late
-                number = known.number or self.process.number_of(known)
-                site = self.process.new_site(key, text)
-                operation(state, number << OBJECT_SHIFT | site << SITE_SHIFT, *arguments)
+                call = None if known is None else self.late_call(known, key, text)
+                if call is None or call >> OBJECT_SHIFT:
+                    operation(state, call, *arguments)
+                else:
+                    state.lose()
             except RecursionError:
                 state.put_off.insert(0, late)
                 raise
             finally:
                 state.busy = False
+
+    def late_call(self, known, key, text):
+        """Lock and site of what was put off."""
+        number = known.number or self.process.number_of(known)
+        return number << OBJECT_SHIFT | self.process.new_site(key, text) << SITE_SHIFT
+
+    def note(self, text):
+        """Counts a note, once the thread is in nothing else here."""
+        state = self.state()
+        state.put_off.append((note, None, None, None, (text,)))
+        self.catch_up(state)
 
     # Locks
 
@@ -566,6 +615,10 @@ class Recorder:
 
     def waits(self, known, frame):
         self.do(wait, known, frame)
+
+    def is_no_lock(self, known, frame):
+        """What was recorded as a lock is none."""
+        self.do(no_lock, known, frame)
 
     def settles(self, known, frame, depth):
         """The thread holds the lock so often, whatever of its last call was recorded."""
@@ -627,11 +680,13 @@ class Recorder:
     def before_fork(self):
         """From here on no event is written, until it is known which process this is."""
         self.state().busy = True
-        self.process.births.acquire()
+        if not self.process.is_stuck():
+            self.process.births.acquire()
         self.process.record[PROCESS_FORKS] += 1
 
     def after_fork_in_parent(self):
-        self.process.births.release()
+        if self.process.births._is_owned():
+            self.process.births.release()
         state = self.state()
         state.busy = False
         self.catch_up(state)
@@ -662,6 +717,14 @@ def wait(state, call):
         state.release(call)
     for _ in range(depth):
         state.acquire(call, ACQUIRE)
+
+
+def no_lock(state, call):
+    state.process.no_lock(call >> OBJECT_SHIFT)
+
+
+def note(state, call, text):
+    state.process.note(text)
 
 
 def settle(state, call):

@@ -279,7 +279,7 @@ def semaphore_start(self, value=1):
     if value == 1:
         self._goodlock_known = recorder.made(type(self).__name__, False, caller())
     elif is_made_by_program(caller()):
-        recorder.process.note(SEMAPHORES_UNSEEN)
+        recorder.note(SEMAPHORES_UNSEEN)
 
 
 def is_made_by_program(frame):
@@ -321,8 +321,8 @@ def semaphore_release_of(kind):
         for _ in range(n):
             if recorder.released(known, caller()) is False:
                 self._goodlock_known = None
-                recorder.process.no_lock(known)
-                recorder.process.note(SEMAPHORES_NO_LOCKS)
+                recorder.is_no_lock(known, caller())
+                recorder.note(SEMAPHORES_NO_LOCKS)
                 return
 
     return release
@@ -389,7 +389,7 @@ class UnseenModules:
     @staticmethod
     def find_spec(name, path=None, target=None):
         if name in UNSEEN_MODULES:
-            recorder.process.note(UNSEEN_MODULES[name])
+            recorder.note(UNSEEN_MODULES[name])
         return None
 
 

@@ -3,7 +3,7 @@
 import random
 import re
 
-from known_traces import compare, cycles_in, edges_of, expand, is_front_of_a_run, killed, others_of
+from known_traces import Run, compare, cycles_in, edges_of, expand, is_front_of_a_run, killed, others_of
 from python_traces import INTERPRETER, LOCKS, MARKS, PAIR, PYTHON_RECORD, expect, record
 
 DEADLOCK = """
@@ -87,6 +87,67 @@ def test_locks_at_any_moment():
         depths[lock] = depths.get(lock, 0) + (1 if word == "acq" else -1)
     assert len(depths) == 5 and set(depths.values()) == {0}, "held at the end: %s" % depths
     assert len(run.lines()) < 3000, "%d lines" % len(run.lines())
+
+
+FINALIZER_IN_A_NOTE = """
+import sys, threading
+files, lock = sys.modules["goodlock_files"], threading.Lock()
+def finalizer(data):
+    del files.memoryview
+    with lock:
+        pass
+    return memoryview(data)
+files.memoryview = finalizer
+threading.Semaphore(2)
+"""
+
+
+def test_finalizer_while_a_note_is_written():
+    """Its events follow. It comes from the recorder's call of another function here, as it may from each one."""
+    with open("program.py", "w") as file:
+        file.write(FINALIZER_IN_A_NOTE)
+    run = Run(PYTHON_RECORD, ["program.py"], ["--python", INTERPRETER])
+    assert run.status == 0 and "1 semaphores were made" in run.said, run.said
+    compare(run.lines(), ["main|%s(Lock@program.py:3#1)|program.py:6" % word for word in ("acq", "rel")])
+
+
+HANDLER_THAT_WAITS = """
+import queue, signal, sys, threading
+signal.alarm(60)
+sys.modules["goodlock_events"].BIRTHS_LIMIT = 0.2
+files, asked, done = sys.modules["goodlock_files"], queue.SimpleQueue(), queue.SimpleQueue()
+def works():
+    asked.get()
+    with threading.Lock():
+        done.put(1)
+def handler(data):
+    del files.memoryview
+    asked.put(1)
+    done.get()
+    return memoryview(data)
+thread = threading.Thread(target=works)
+thread.start()
+files.memoryview = handler
+with threading.Lock():
+    pass
+thread.join()
+with threading.Lock():
+    pass
+"""
+
+
+def test_handler_that_waits_for_another_thread():
+    """It comes to a thread that writes what is new, which the other one has to do, too: that goes on after a while, and what is lost is
+    told."""
+    with open("program.py", "w") as file:
+        file.write(HANDLER_THAT_WAITS)
+    run = Run(PYTHON_RECORD, ["program.py"], ["--python", INTERPRETER])
+    assert run.status == 0 and "events were lost: Resource deadlock avoided" in run.said, run.said
+    lines = [line for line in run.lines() if line.startswith("main|acq") or line.startswith("main|rel")]
+    compare(
+        lines,
+        ["main|%s(Lock@program.py:%d#1)|program.py:%d" % (word, n, n) for n in (18, 21) for word in ("acq", "rel")],
+    )
 
 
 def test_exceptions_of_handlers_at_any_moment():
