@@ -77,7 +77,9 @@ def all_of_java():
 
 def compile_classes(source, place, debug="-g", javac="javac"):
     done = subprocess.run(
-        [javac, "-J" + QUICK, debug, "-d", place, source], stdout=subprocess.PIPE, stderr=subprocess.STDOUT
+        [javac, "-J" + QUICK, debug, "-cp", place, "-d", place, source],
+        stdout=subprocess.PIPE,
+        stderr=subprocess.STDOUT,
     )
     assert done.returncode == 0, done.stdout.decode()
 

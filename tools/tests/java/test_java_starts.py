@@ -1,6 +1,7 @@
 """Where classes come from, and what a JVM may be told."""
 
 import os
+import zipfile
 
 import pytest
 from java_traces import JAVA_RECORD, MARKS, PAIR, all_of_java, compile_source, program, record, version_of
@@ -55,6 +56,40 @@ public class Loader extends ClassLoader {
     }
 }
 """
+# An agent of others, and a class that the recorder changes, which that agent has transformed anew.
+AGENT = """
+import java.lang.instrument.Instrumentation;
+
+public class Agent {
+    static Instrumentation instrumentation;
+
+    public static void premain(String words, Instrumentation given) {
+        instrumentation = given;
+    }
+}
+"""
+TRANSFORMED = """import java.util.concurrent.locks.ReentrantLock;
+public class Main implements java.io.Serializable {
+    static final ReentrantLock lock = new ReentrantLock();
+
+    synchronized void take() {
+        lock.lock();
+        Runnable last = lock::unlock;
+        last.run();
+    }
+
+    public static void main(String[] words) throws Exception {
+        Main main = new Main();
+        main.take();
+        Agent.instrumentation.retransformClasses(Main.class);
+        main.take();
+    }
+}
+"""
+TAKEN = """main|acq(Main@Main.java:6#1)|Main.java:6
+main|acq(ReentrantLock@Main.java:3#1)|Main.java:6
+main|rel(ReentrantLock@Main.java:3#1)|Main.java:7
+main|rel(Main@Main.java:6#1)|Main.java:9"""
 TRACE = """main|fork(main.1:Main.lambda)|Main.java:7
 main|join(main.1:Main.lambda)|Main.java:8
 main.1:Main.lambda|acq(Object@Main.java:3#1)|Main.java:12
@@ -86,6 +121,20 @@ def test_class_loader_that_asks_no_other_one():
     run = record(None, command=["java", "-Xverify:all", "-cp", "own", "Loader", "alone.Main"])
     assert run.status == 0, run.said
     compare([line for line in run.lines() if "Loader" not in line], TRACE.split("\n"))
+
+
+def test_class_that_another_agent_transforms_anew():
+    """As some libraries for tests do: it stays as the recorder made it, and goes on to be recorded."""
+    compile_source("Agent", AGENT)
+    compile_source("Main", TRANSFORMED)
+    with zipfile.ZipFile("agent.jar", "w") as archive:
+        archive.writestr(
+            "META-INF/MANIFEST.MF", "Manifest-Version: 1.0\nPremain-Class: Agent\nCan-Retransform-Classes: true\n"
+        )
+        archive.write("own/Agent.class", "Agent.class")
+    run = record(None, "--all", command=["java", "-javaagent:agent.jar", "-cp", "agent.jar:own", "Main"])
+    assert run.status == 0, run.said
+    compare(run.lines(), 2 * TAKEN.split("\n"))
 
 
 def test_recorder_that_runs_the_recorder():

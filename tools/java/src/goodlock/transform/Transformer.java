@@ -10,7 +10,9 @@ import java.security.NoSuchAlgorithmException;
 import java.security.PrivilegedAction;
 import java.security.ProtectionDomain;
 import java.util.ArrayList;
+import java.util.HashSet;
 import java.util.List;
+import java.util.Set;
 import org.objectweb.asm.ClassReader;
 import org.objectweb.asm.ClassWriter;
 import org.objectweb.asm.Opcodes;
@@ -33,18 +35,25 @@ public final class Transformer implements ClassFileTransformer {
         "sun/", "java/nio/", "java/security/", "com/sun/jndi/", "java/util/zip/", "java/util/jar/", "java/util/logging/Logger$"};
 
     private final boolean withJdk;
+    /**
+     * Classes that the JVM had loaded before the agent: they can't get or lose a method, a field or a flag. All others were instrumented
+     * while they were loaded, and are again in the same way where another agent or a debugger has them transformed anew.
+     */
+    private final Set<Class<?>> loadedBefore;
     private String firstLeft;
 
-    private Transformer(boolean withJdk) {
+    private Transformer(boolean withJdk, Class<?>[] loaded) {
         this.withJdk = withJdk;
+        loadedBefore = new HashSet<>(List.of(loaded));
     }
 
     public static void install(Instrumentation instrumentation, boolean withJdk)
             throws UnmodifiableClassException, NoSuchAlgorithmException {
         MessageDigest.getInstance("SHA"); // serial versions need it, and it must not be loaded amid one of its own classes
-        instrumentation.addTransformer(new Transformer(withJdk), true);
+        Transformer transformer = new Transformer(withJdk, instrumentation.getAllLoadedClasses());
+        instrumentation.addTransformer(transformer, true);
         List<Class<?>> loaded = new ArrayList<>(List.of(Thread.class));
-        for (Class<?> type : withJdk ? instrumentation.getAllLoadedClasses() : new Class<?>[0]) {
+        for (Class<?> type : withJdk ? transformer.loadedBefore : Set.<Class<?>>of()) {
             if (instrumentation.isModifiableClass(type) && !type.isArray() && type != Thread.class
                     && isWanted(type.getName().replace('.', '/'), type.getModule(), true)) {
                 loaded.add(type);
@@ -72,7 +81,8 @@ public final class Transformer implements ClassFileTransformer {
     @Override
     public byte[] transform(Module module, ClassLoader loader, String name, Class<?> loaded, ProtectionDomain domain,
             byte[] code) {
-        return AccessController.doPrivileged((PrivilegedAction<byte[]>) () -> transform(module, name, loaded != null, code));
+        boolean before = loaded != null && loadedBefore.contains(loaded);
+        return AccessController.doPrivileged((PrivilegedAction<byte[]>) () -> transform(module, name, before, code));
     }
 
     private byte[] transform(Module module, String name, boolean loaded, byte[] code) {
