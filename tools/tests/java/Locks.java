@@ -450,6 +450,19 @@ public class Locks {
         ((Runnable & java.io.Serializable) lock::unlock).run(); // a reference that can be written stays as it is
     }
 
+    /** Of objects whose class has the method from another one. */
+    static void referencesOfClasses() throws Exception {
+        Counted lock = new Counted();
+        BooleanSupplier first = lock::tryLock; // @class_reference_try
+        first.getAsBoolean();
+        Action last = lock::unlock; // @class_reference_unlock
+        last.run();
+        Worker worker = new Worker();
+        worker.start(); // @class_reference_start
+        Action end = worker::join; // @class_reference_join
+        end.run();
+    }
+
     // --- Threads
 
     static class Worker extends Thread {

@@ -146,6 +146,18 @@ def test_references_to_methods_of_locks():
     )
 
 
+def test_references_to_methods_of_other_classes():
+    """The object's class has the method from the one that it is made of."""
+    expect(
+        "referencesOfClasses",
+        """
+        main|tryacq(Locks$Counted@@counted_made#1)|@class_reference_try
+        main|rel(Locks$Counted@@counted_made#1)|@class_reference_unlock
+        main|fork(main.1:Locks$Worker)|@class_reference_start
+        main|join(main.1:Locks$Worker)|@class_reference_join""",
+    )
+
+
 @pytest.mark.parametrize("java", all_of_java())
 def test_conditions_of_write_locks(java):
     run = record(None, command=[java, "-cp", "classes", "Locks", "conditionOfWriteLock"])

@@ -49,7 +49,7 @@ final class References {
         if (!made && !called || !CallInstrumenter.isRecorded(handle.getOwner(), handle.getName(), handle.getDesc())) {
             return false;
         }
-        MethodNode method = made ? making(handle, line) : calling(handle, line);
+        MethodNode method = made ? making(handle, line) : calling(handle, Type.getArgumentTypes(instruction.desc), line);
         added.add(method);
         boolean isInterface = (owner.access & Opcodes.ACC_INTERFACE) != 0;
         instruction.bsmArgs[HANDLE] = new Handle(Opcodes.H_INVOKESTATIC, owner.name, method.name, method.desc, isInterface);
@@ -82,10 +82,12 @@ final class References {
         method.maxLocals = place;
     }
 
-    private MethodNode calling(Handle handle, int line) {
+    /** An object that the reference has with it, as `lock::unlock`, is given as what it is there, which may be of a class made of the
+     * method's. */
+    private MethodNode calling(Handle handle, Type[] had, int line) {
         Type[] given = Type.getArgumentTypes(handle.getDesc());
         Type[] arguments = new Type[given.length + 1];
-        arguments[0] = Type.getObjectType(handle.getOwner());
+        arguments[0] = had.length > 0 ? had[0] : Type.getObjectType(handle.getOwner());
         System.arraycopy(given, 0, arguments, 1, given.length);
         Type result = Type.getReturnType(handle.getDesc());
         MethodNode method = begun(Type.getMethodDescriptor(result, arguments), line);
