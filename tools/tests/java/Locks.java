@@ -403,6 +403,32 @@ public class Locks {
         lock.unlock(); // @counted_unlock_3
     }
 
+    /** A class of locks that stands before the interruptible acquire. */
+    static class Patient extends ReentrantLock {
+        Patient() {
+            super(); // @patient_made
+        }
+
+        @Override
+        public void lockInterruptibly() throws InterruptedException {
+            super.lockInterruptibly(); // @patient_lock
+        }
+    }
+
+    static void classesOfInterruptibleLocks() throws Exception {
+        Patient lock = new Patient();
+        lock.lockInterruptibly();
+        ((Lock) lock).lockInterruptibly();
+        lock.unlock(); // @patient_unlock
+        lock.unlock(); // @patient_unlock_2
+        Thread.currentThread().interrupt();
+        try {
+            lock.lockInterruptibly();
+        } catch (InterruptedException expected) {
+            words[0].length();
+        }
+    }
+
     /** An object that is a lock has a monitor, too: these are two locks. */
     static void monitorsOfLocks() throws Exception {
         synchronized (again) { // @monitor_of_lock

@@ -105,6 +105,17 @@ def test_classes_of_locks():
     )
 
 
+def test_classes_of_interruptible_locks():
+    expect(
+        "classesOfInterruptibleLocks",
+        """
+        main|acq(Locks$Patient@@patient_made#1)|@patient_lock
+        main|acq(Locks$Patient@@patient_made#1)|@patient_lock
+        main|rel(Locks$Patient@@patient_made#1)|@patient_unlock
+        main|rel(Locks$Patient@@patient_made#1)|@patient_unlock_2""",
+    )
+
+
 def test_monitors_of_locks():
     """An object that is a lock has a monitor, too."""
     lock, monitor = "(ReentrantLock@@again#1)", "(ReentrantLock.monitor@@monitor_of_lock#1)"

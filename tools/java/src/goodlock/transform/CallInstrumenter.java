@@ -99,9 +99,10 @@ final class CallInstrumenter {
                 || instead(STAMPED_INSTEAD.get(key), "(L" + STAMPED + ";I)J") || before(BEFORE.get(key));
     }
 
-    /** Where it isn't known that the object is a Lock, the acquire is written after the call. */
+    /** Where it isn't known that the object is a Lock, or the call is by `super`, the acquire is written after the call. */
     private boolean interruptible() {
-        return LOCK_TYPES.contains(call.owner) ? instead("lockInterruptibly", "(L" + LOCKS + "Lock;I)V") : after("lockedInterruptibly");
+        boolean replaced = LOCK_TYPES.contains(call.owner) && instead("lockInterruptibly", "(L" + LOCKS + "Lock;I)V");
+        return replaced || after("lockedInterruptibly");
     }
 
     private boolean instead(String name, String descriptor) {
