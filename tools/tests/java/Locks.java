@@ -824,8 +824,16 @@ public class Locks {
         }
     }
 
+    record SerialRecord(int number) implements java.io.Serializable {
+        synchronized void method() {
+            words[0].length();
+        }
+    }
+
     static void serial() {
-        System.out.println(java.io.ObjectStreamClass.lookup(Serial.class).getSerialVersionUID());
+        for (Class<?> type : new Class<?>[] {Serial.class, SerialRecord.class}) {
+            System.out.println(java.io.ObjectStreamClass.lookup(type).getSerialVersionUID());
+        }
     }
 
     static void fields() {

@@ -114,7 +114,8 @@ public final class Transformer implements ClassFileTransformer {
         ClassReader reader = new ClassReader(read);
         ClassNode node = new ClassNode();
         reader.accept(node, ClassReader.EXPAND_FRAMES);
-        if (!loaded && hasSynchronizedMethod(node)) {
+        boolean isRecord = (node.access & Opcodes.ACC_RECORD) != 0; // its serial version is 0 where none is written down
+        if (!loaded && !isRecord && hasSynchronizedMethod(node)) {
             keepIdentity(node, reader);
         }
         boolean changed = name.equals(THREAD) ? hookStart(node) : instrumentMethods(node, loaded);
