@@ -12,6 +12,7 @@ BUILT = os.path.join(os.path.dirname(HERE), "out", "java")
 LIBRARIES = "/usr/share/java"
 ASM = ("asm.jar", "asm-tree.jar", "asm-commons.jar")
 PARTS = ("runtime", "agent", "transform")
+SEPARATORS = "=:"  # in the option that names an agent's file, its words and their class path
 MANIFEST = """Premain-Class: goodlock.agent.Agent
 Boot-Class-Path: goodlock-runtime.jar
 Can-Retransform-Classes: true
@@ -79,6 +80,8 @@ def is_built():
 
 def agent_option():
     """The JVM's option that loads the agent, which is built here if need be."""
+    if any(mark in BUILT for mark in SEPARATORS):
+        raise AgentError("%s: a JVM can't be given an agent whose path has = or : in it" % BUILT)
     class_path = asm_path()
     if not is_built():
         os.makedirs(BUILT, exist_ok=True)

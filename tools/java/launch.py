@@ -4,9 +4,17 @@
     goodlock-java [-o TRACE] --convert DIRECTORY
 
 In java's place may stand whatever starts a JVM. docs/RECORDING-JAVA.md explains it.
+
+-o TRACE              the file, else goodlock.std
+--frames N            show N callers in a location (1 to 16)
+--all                 leave no repeats out
+--jdk                 record the monitors of the JDK's own classes too
+--convert DIRECTORY   no run: write the trace of what a recording left behind
+--help, --version     print this, print the version
 """
 
 import os
+import shlex
 import sys
 
 HERE = os.path.dirname(os.path.realpath(__file__))
@@ -16,7 +24,7 @@ sys.pycache_prefix = os.path.join(os.path.dirname(HERE), "out", "python")
 import launch as recording  # noqa: E402
 from options import split_options  # noqa: E402
 
-USAGE = __doc__.split("\n\n")[1]
+USAGE = "usage:\n" + __doc__.split("\n\n")[1]
 
 
 def read_arguments(arguments):
@@ -37,11 +45,13 @@ class JavaRecorder(recording.Recorder):
             self.option = agent_option()
         except AgentError as error:
             raise recording.Failed(str(error))
+        except OSError as error:
+            raise recording.Failed("the agent can't be built: %s" % error)
 
     def environment(self, settings, directory):
         environment = dict(os.environ)
-        # The JVM takes words in quotes together.
-        option = "'%s'" % self.option if " " in self.option else self.option
+        # The JVM takes words apart as a shell does.
+        option = shlex.quote(self.option)
         environment["JAVA_TOOL_OPTIONS"] = " ".join([option] + environment.get("JAVA_TOOL_OPTIONS", "").split(None, 0))
         environment["GOODLOCK_JAVA_DIRECTORY"] = directory
         environment["GOODLOCK_JAVA_FRAMES"] = str(settings.frames)

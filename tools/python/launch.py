@@ -26,7 +26,7 @@ import launch as recording  # noqa: E402
 from options import VALUED, split_options  # noqa: E402
 from tool import find_tool  # noqa: E402
 
-USAGE = __doc__.split("\n\n")[1]
+USAGE = "usage:\n" + __doc__.split("\n\n")[1]
 START = os.path.join(HERE, "start")
 
 
@@ -79,7 +79,8 @@ class PythonRecorder(recording.Recorder):
     name = "goodlock-python"
 
     def prepare(self):
-        pass
+        if ":" in START:
+            raise recording.Failed("%s: an interpreter can't be given a folder whose path has : in it" % START)
 
     def clean_up(self):
         pass

@@ -1,9 +1,13 @@
-"""Wrong words are refused, with and without Java."""
+"""Words and folders that are refused, with and without Java, and those that aren't."""
 
+import os
+import re
+import shutil
 import subprocess
 
-from java_traces import JAVA_RECORD
-from known_traces import REFUSED
+import pytest
+from java_traces import JAVA_RECORD, MARKS, PAIR, program
+from known_traces import REFUSED, TOOLS, Run, compare, expand
 
 
 def test_wrong_words():
@@ -21,3 +25,53 @@ def test_wrong_words():
         assert done.returncode == REFUSED, "%s: %d" % (words, done.returncode)
         assert done.stderr.startswith(b"goodlock-java: "), done.stderr.decode()
     assert open("kept.std").read() == "old\n", "the file was changed"
+
+
+def test_no_word_at_all_tells_the_usage():
+    done = subprocess.run([JAVA_RECORD], stdout=subprocess.PIPE, stderr=subprocess.PIPE)
+    assert done.stderr.decode().startswith("goodlock-java: usage:\n    goodlock-java [-o TRACE]"), done.stderr
+
+
+def test_help_explains_each_option():
+    told = subprocess.run([JAVA_RECORD, "--help"], stdout=subprocess.PIPE).stdout.decode()
+    options = ["-o TRACE", "--frames N", "--all", "--jdk", "--convert DIRECTORY", "--help, --version"]
+    assert re.findall(r"^(-.*?)  +[a-z]", told, re.M) == options
+
+
+def tools_in(folder):
+    """A copy of the recorder there, built if it is here."""
+    for name in ("java", "record", "out"):
+        if os.path.isdir(os.path.join(TOOLS, name)):
+            shutil.copytree(os.path.join(TOOLS, name), os.path.join(folder, name))
+    for name in ("goodlock-java", "Makefile"):
+        shutil.copy2(os.path.join(TOOLS, name), folder)
+    return os.path.join(folder, "goodlock-java")
+
+
+def said_by(recorder):
+    done = subprocess.run([recorder, "true"], stdout=subprocess.PIPE, stderr=subprocess.PIPE)
+    return done.returncode, done.stderr.decode()
+
+
+@pytest.mark.parametrize("name", ["a=b", "a:b"])
+def test_folders_that_no_agent_can_be_in(name):
+    recorder = tools_in(name)
+    built = os.path.join(os.path.realpath(name), "out", "java")
+    told = "goodlock-java: %s: a JVM can't be given an agent whose path has = or : in it\n" % built
+    assert said_by(recorder) == (REFUSED, told)
+
+
+def test_folder_where_nothing_can_be_made():
+    recorder = tools_in("full")
+    shutil.rmtree("full/out", ignore_errors=True)
+    with open("full/out", "w"):
+        pass
+    status, told = said_by(recorder)
+    assert status == REFUSED and told.startswith("goodlock-java: the agent can't be built: "), told
+
+
+@pytest.mark.usefixtures("classes")
+def test_folder_whose_name_has_quotes_and_blanks():
+    run = Run(tools_in('it\'s "here" now'), program("monitors"))
+    assert run.status == 0, run.said
+    compare(run.lines(), expand(PAIR, MARKS))

@@ -5,7 +5,7 @@ import shutil
 import subprocess
 
 import pytest
-from known_traces import NO_EVENTS, RECORD, REFUSED, Run, compare, cycles_in, edges_of, example_of, expand
+from known_traces import NO_EVENTS, RECORD, REFUSED, TOOLS, Run, compare, cycles_in, edges_of, example_of, expand
 from python_traces import INTERPRETER, LOCKS, MARKS, MUTEXES, PYTHON_RECORD, all_interpreters, record
 
 
@@ -169,6 +169,21 @@ def test_wrong_words():
         assert done.stderr.startswith(b"goodlock-python: "), done.stderr.decode()
     assert open("kept.std").read() == "old\n", "the file was changed"
     assert Run(PYTHON_RECORD, ["./no-such-program"]).status == 127, "a missing program"
+
+
+def test_folder_that_no_interpreter_can_be_given():
+    for name in ("python", "record"):
+        shutil.copytree(os.path.join(TOOLS, name), os.path.join("a:b", name))
+    shutil.copy(PYTHON_RECORD, "a:b")
+    done = subprocess.run(["a:b/goodlock-python", "true"], stderr=subprocess.PIPE)
+    start = os.path.join(os.path.realpath("a:b"), "python", "start")
+    told = "goodlock-python: %s: an interpreter can't be given a folder whose path has : in it\n" % start
+    assert (done.returncode, done.stderr.decode()) == (REFUSED, told)
+
+
+def test_no_word_at_all_tells_the_usage():
+    done = subprocess.run([PYTHON_RECORD], stdout=subprocess.PIPE, stderr=subprocess.PIPE)
+    assert done.stderr.decode().startswith("goodlock-python: usage:\n    goodlock-python [-o TRACE]"), done.stderr
 
 
 def test_recorded_by_both_recorders():
