@@ -19,6 +19,10 @@ Can-Retransform-Classes: true
 """
 
 
+# In a class file: where its version stands, and that of Java 8.
+VERSION_PLACE, VERSION_8 = 6, b"\0\x34"
+
+
 class AgentError(Exception):
     pass
 
@@ -55,11 +59,21 @@ def compile_sources(*arguments):
         raise AgentError("building the agent failed:\n" + done.stdout.decode(errors="replace"))
 
 
+def class_file(path, part):
+    """A class file's bytes. The agent's own class has nothing in it that is newer than Java 8, and says so: a JVM that is too old to be
+    recorded loads it and runs on."""
+    with open(path, "rb") as file:
+        data = file.read()
+    return data[:VERSION_PLACE] + VERSION_8 + data[VERSION_PLACE + 2 :] if part == "agent" else data
+
+
 def write_jar(folder, classes, part, manifest):
     with zipfile.ZipFile(os.path.join(folder, "goodlock-%s.jar" % part), "w") as archive:
         archive.writestr("META-INF/MANIFEST.MF", "Manifest-Version: 1.0\n" + manifest)
         for name in sorted(os.listdir(os.path.join(classes, "goodlock", part))):
-            archive.write(os.path.join(classes, "goodlock", part, name), "goodlock/%s/%s" % (part, name))
+            archive.writestr(
+                "goodlock/%s/%s" % (part, name), class_file(os.path.join(classes, "goodlock", part, name), part)
+            )
 
 
 def build_into(folder):
@@ -74,7 +88,8 @@ def is_built():
     jars = [os.path.join(BUILT, "goodlock-%s.jar" % part) for part in PARTS]
     if not all(os.path.exists(path) for path in jars):
         return False
-    newest = max(os.stat(path).st_mtime for part in PARTS for path in sources_of(part))
+    sources = [os.path.realpath(__file__), *(path for part in PARTS for path in sources_of(part))]
+    newest = max(os.stat(path).st_mtime for path in sources)
     return min(os.stat(path).st_mtime for path in jars) >= newest
 
 

@@ -4,10 +4,11 @@ import os
 import re
 import shutil
 import subprocess
+import zipfile
 
 import pytest
 from java_traces import JAVA_RECORD, MARKS, PAIR, program
-from known_traces import REFUSED, TOOLS, Run, compare, expand
+from known_traces import NO_EVENTS, REFUSED, TOOLS, Run, compare, expand
 
 
 def test_wrong_words():
@@ -75,3 +76,20 @@ def test_folder_whose_name_has_quotes_and_blanks():
     run = Run(tools_in('it\'s "here" now'), program("monitors"))
     assert run.status == 0, run.said
     compare(run.lines(), expand(PAIR, MARKS))
+
+
+@pytest.mark.usefixtures("classes")
+def test_java_that_is_too_old():
+    """It runs on as without the recorder. That is seen by a recorder that is made too new; the agent itself is read by Java 8."""
+    recorder = tools_in("new")
+    assert Run(recorder, program("monitors")).status == 0
+    with zipfile.ZipFile("new/out/java/goodlock-agent.jar") as archive:
+        assert archive.read("goodlock/agent/Agent.class")[:8] == b"\xca\xfe\xba\xbe\0\0\0\x34"
+    with zipfile.ZipFile("new/out/java/goodlock-runtime.jar") as archive:
+        classes = {name: archive.read(name) for name in archive.namelist()}
+    with zipfile.ZipFile("new/out/java/goodlock-runtime.jar", "w") as archive:
+        for name, data in classes.items():
+            archive.writestr(name, data[:6] + b"\xff" + data[7:] if name.endswith(".class") else data)
+    run = Run(recorder, ["java", "-cp", "classes", "Locks", "halts"])
+    assert run.status == NO_EVENTS and "own status was 5" in run.said, run.said
+    assert "goodlock-java: this process isn't recorded: it needs Java 17 or later\n" in run.said, run.said
