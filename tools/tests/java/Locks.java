@@ -797,6 +797,18 @@ public class Locks {
         } // @overflow_b_end
     }
 
+    /** As if memory had ended in the recorder, when it writes what is new. */
+    static void outOfMemoryInTheRecorder() throws Exception {
+        java.lang.reflect.Method place = Class.forName("goodlock.runtime.Recorder").getMethod("place", String.class);
+        place.invoke(null, "x".repeat(10 << 20));
+        synchronized (new Object()) { // @scarce
+            words[0].length();
+        } // @scarce_end
+        Thread thread = new Worker();
+        thread.start(); // @scarce_start
+        thread.join(); // @scarce_join
+    }
+
     static void shutdownHook() {
         Runtime.getRuntime().addShutdownHook(new Thread(() -> both(b, a), "hook"));
         both(a, b);

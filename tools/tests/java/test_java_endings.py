@@ -59,6 +59,19 @@ def test_thread_that_runs_out_of_memory():
     assert others_of(run.lines())[1] == {"main": []}, "held at the end"
 
 
+def test_memory_that_ends_in_the_recorder():
+    """What there is none for is lost, and what comes later isn't."""
+    command = ["java", QUICK, "-Xmx24m", "-XX:+UseSerialGC", "-cp", "classes", "Locks", "outOfMemoryInTheRecorder"]
+    run = record(None, command=command)
+    assert run.status == 0 and re.findall(r"(\d+) (\w+) were lost", run.said) == [("1", "places")], run.said
+    text = """
+        main|acq(Object@@scarce#1)|@scarce
+        main|rel(Object@@scarce#1)|@scarce_end
+        main|fork(main.1:Locks$Worker)|@scarce_start
+        main|join(main.1:Locks$Worker)|@scarce_join"""
+    compare(run.lines(), expand(text, MARKS))
+
+
 def test_acquire_at_which_the_stack_ended():
     """It ends before the next event; what the thread holds stays so."""
     expect(

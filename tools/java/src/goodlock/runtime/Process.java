@@ -10,7 +10,7 @@ import java.util.Map;
 /**
  * The recorded process. What is new (a lock, place or thread) is written by one thread at a time, which takes no lock of the
  * program's meanwhile. Where there is no room for more, events are lost and counted. A thread that runs out of stack in here does it again,
- * if it comes again.
+ * if it comes again; what there is no memory for is lost, and what comes later isn't.
  */
 final class Process {
     final boolean all;
@@ -44,6 +44,8 @@ final class Process {
             return full ? null : files.write(kind, text, numbers);
         } catch (StackOverflowError overflow) {
             throw overflow;
+        } catch (OutOfMemoryError scarce) {
+            return null;
         } catch (IOException | Error failure) {
             full = true;
             return null;
@@ -59,6 +61,8 @@ final class Process {
             return full ? null : files.newEvents(thread, order);
         } catch (StackOverflowError overflow) {
             throw overflow;
+        } catch (OutOfMemoryError scarce) {
+            return null;
         } catch (IOException | Error failure) {
             full = true;
             return null;
@@ -91,6 +95,8 @@ final class Process {
             record = full ? null : files.writeThread(number, parent, child);
         } catch (StackOverflowError overflow) {
             throw overflow;
+        } catch (OutOfMemoryError scarce) {
+            record = null;
         } catch (IOException | Error failure) {
             full = true;
         }
