@@ -207,6 +207,12 @@ def test_a_full_disk_is_status_2():
     assert (done.returncode, done.stderr) == (2, errors)
 
 
+@pytest.mark.parametrize("stream", ["2>/dev/full", "2>&-"])
+def test_an_error_that_nobody_hears_is_status_2(stream):
+    done = subprocess.run(f'"{sys.executable}" "{TOOL}" none.json {stream}', shell=True)
+    assert done.returncode == 2
+
+
 def test_closed_streams_are_status_2():
     write("r.json", EXAMPLE)
     for arguments, words in (("r.json >&-", "standard output: can't be written: it is closed"),

@@ -148,5 +148,15 @@ def main(arguments: list[str] | None = None) -> int:
         text = "out of memory"
     except KeyboardInterrupt:
         text = "interrupted"
-    print(f"{TOOL}: {text}", file=sys.stderr)
+    _tell(f"{TOOL}: {text}\n")
     return 2
+
+
+def _tell(line: str) -> None:
+    """On standard error. Where that is closed, or on a full disk, nobody hears it: nothing is kept of it that Python
+    would try to write in the end, with a status of its own if it can't."""
+    try:
+        if sys.stderr is not None:
+            os.write(sys.stderr.fileno(), line.encode("utf-8", "backslashreplace"))
+    except OSError:
+        pass
