@@ -81,7 +81,7 @@ public class Main implements java.io.Serializable {
     public static void main(String[] words) throws Exception {
         Main main = new Main();
         main.take();
-        Agent.instrumentation.retransformClasses(Main.class);
+        Agent.instrumentation.retransformClasses(Main.class, java.io.DataOutputStream.class);
         main.take();
     }
 }
@@ -123,8 +123,10 @@ def test_class_loader_that_asks_no_other_one():
     compare([line for line in run.lines() if "Loader" not in line], TRACE.split("\n"))
 
 
-def test_class_that_another_agent_transforms_anew():
-    """As some libraries for tests do: it stays as the recorder made it, and goes on to be recorded."""
+@pytest.mark.parametrize("options", [[], ["--jdk"]])
+def test_class_that_another_agent_transforms_anew(options):
+    """As some libraries for tests do: it stays as the recorder made it, and goes on to be recorded. So does a class of the JDK that the
+    recorder itself uses."""
     compile_source("Agent", AGENT)
     compile_source("Main", TRANSFORMED)
     with zipfile.ZipFile("agent.jar", "w") as archive:
@@ -132,9 +134,10 @@ def test_class_that_another_agent_transforms_anew():
             "META-INF/MANIFEST.MF", "Manifest-Version: 1.0\nPremain-Class: Agent\nCan-Retransform-Classes: true\n"
         )
         archive.write("own/Agent.class", "Agent.class")
-    run = record(None, "--all", command=["java", "-javaagent:agent.jar", "-cp", "agent.jar:own", "Main"])
+    command = ["java", "-javaagent:agent.jar", "-cp", "agent.jar:own", "Main"]
+    run = record(None, "--all", *options, command=command)
     assert run.status == 0, run.said
-    compare(run.lines(), 2 * TAKEN.split("\n"))
+    compare([line for line in run.lines() if "|Main.java:" in line], 2 * TAKEN.split("\n"))
 
 
 def test_recorder_that_runs_the_recorder():

@@ -1,6 +1,8 @@
 package goodlock.transform;
 
 import goodlock.runtime.Recorder;
+import java.io.DataOutputStream;
+import java.io.OutputStream;
 import java.lang.instrument.ClassFileTransformer;
 import java.lang.instrument.Instrumentation;
 import java.lang.instrument.UnmodifiableClassException;
@@ -49,7 +51,9 @@ public final class Transformer implements ClassFileTransformer {
 
     public static void install(Instrumentation instrumentation, boolean withJdk)
             throws UnmodifiableClassException, NoSuchAlgorithmException {
-        MessageDigest.getInstance("SHA"); // serial versions need it, and it must not be loaded amid one of its own classes
+        // Serial versions need these: what is loaded while a class is instrumented isn't.
+        MessageDigest.getInstance("SHA");
+        new DataOutputStream(OutputStream.nullOutputStream());
         Transformer transformer = new Transformer(withJdk, instrumentation.getAllLoadedClasses());
         instrumentation.addTransformer(transformer, true);
         List<Class<?>> loaded = new ArrayList<>(List.of(Thread.class));
