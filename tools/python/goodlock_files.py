@@ -140,14 +140,15 @@ class Files:
         return None
 
     def new_chunk(self, magic, thread, order, size, used):
-        """The numbers of a new chunk's head and its words, all zero; an OSError if there is no room."""
+        """The numbers of a new chunk's head and its words, all zero; an OSError if there is no room. An exception of a signal's handler may
+        come at each call: the place counts as used once the chunk is whole, as none behind a hole is read."""
         if self.used + size > EXTENT_BYTES:
             self.open_extent()
         self.reserve(self.used, size)
         chunk = self.extent.bytes[self.used : self.used + size]
-        self.used += size
         pack_into("=IIIQ", chunk, 4, thread, order, size, used)
         pack_into("=I", chunk, 0, magic)
+        self.used += size
         return chunk[:CHUNK_HEAD].cast("Q"), chunk[CHUNK_HEAD:].cast("Q")
 
     def new_events(self, thread, order):

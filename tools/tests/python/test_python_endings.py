@@ -111,6 +111,33 @@ def test_finalizer_while_a_note_is_written():
     compare(run.lines(), ["main|%s(Lock@program.py:3#1)|program.py:6" % word for word in ("acq", "rel")])
 
 
+INTERRUPTED_CHUNK = """
+import sys, threading
+files, lock = sys.modules["goodlock_files"], threading.Lock()
+real = files.pack_into
+def interrupted(*words):
+    files.pack_into = real
+    raise KeyboardInterrupt
+files.pack_into = interrupted
+try:
+    with lock:
+        pass
+except KeyboardInterrupt:
+    pass
+with lock:
+    pass
+"""
+
+
+def test_exception_while_room_is_made_for_events():
+    """What comes later is recorded."""
+    with open("program.py", "w") as file:
+        file.write(INTERRUPTED_CHUNK)
+    run = Run(PYTHON_RECORD, ["program.py"], ["--python", INTERPRETER])
+    assert run.status == 0, run.said
+    compare(run.lines(), ["main|%s(Lock@program.py:3#1)|program.py:14" % word for word in ("acq", "rel")])
+
+
 HANDLER_THAT_WAITS = """
 import queue, signal, sys, threading
 signal.alarm(60)
