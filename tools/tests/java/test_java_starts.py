@@ -1,11 +1,12 @@
 """Where classes come from, and what a JVM may be told."""
 
 import os
+import subprocess
 import zipfile
 
 import pytest
 from java_traces import JAVA_RECORD, MARKS, PAIR, all_of_java, compile_source, program, record, version_of
-from known_traces import NO_EVENTS, compare, expand, read_lines
+from known_traces import NO_EVENTS, TOOLS, compare, expand, read_lines
 
 pytestmark = pytest.mark.usefixtures("classes")
 
@@ -145,6 +146,18 @@ def test_recorder_that_runs_the_recorder():
     run = record(None, command=[JAVA_RECORD, "-o", "inner.std", "--", *program("monitors")])
     assert run.status == NO_EVENTS, run.said
     compare(read_lines("inner.std"), expand(PAIR, MARKS))
+
+
+def test_agent_whose_library_is_gone():
+    """The JVM says so, and runs the program."""
+    record("nothing")  # builds the agent
+    built = os.path.join(TOOLS, "out", "java", "goodlock-")
+    agent = "-javaagent:%sagent.jar=%stransform.jar" % (built, built)
+    command = ["java", agent, "-cp", "classes", "Locks", "halts"]
+    environment = {**os.environ, "GOODLOCK_JAVA_DIRECTORY": os.getcwd()}
+    done = subprocess.run(command, stdout=subprocess.PIPE, stderr=subprocess.PIPE, env=environment)
+    told = b"goodlock-java: this process isn't recorded: java.lang.NoClassDefFoundError"
+    assert done.returncode == 5 and done.stderr.startswith(told), done.stdout + done.stderr
 
 
 def test_security_manager():

@@ -52,7 +52,7 @@ public final class Start {
                 open(instrumentation);
                 startRecorder(directory);
                 startTransformer(classPath, instrumentation);
-            } catch (IOException | ReflectiveOperationException | RuntimeException failure) {
+            } catch (IOException | ReflectiveOperationException | RuntimeException | LinkageError failure) {
                 System.err.println("goodlock-java: this process isn't recorded: " + failure);
             }
             return null;
