@@ -293,10 +293,12 @@ static void left_end_all(struct left *left, uintptr_t start, uintptr_t end, int 
 
 /* --- The functions that give memory back ---------------------------------------------------------------- */
 
-/* The sizes of blocks are asked of the library that frees them. */
+/* The sizes of blocks are asked of the library that frees them. A sanitizer would tell of that question, and not of
+ * what the program does, where that gives a block back twice. */
 static size_t block_size(void *block)
 {
-    return real.malloc_usable_size ? real.malloc_usable_size(block) : 1;
+    int is_known = real.malloc_usable_size && (!real.owns || real.owns(block));
+    return is_known ? real.malloc_usable_size(block) : 1;
 }
 
 /* Of most blocks the filter says at once that no lock is in their pages. */

@@ -31,11 +31,11 @@ static int are_of_one_library(const void *one, const void *other)
     return dladdr(one, &place) && dladdr(other, &other_place) && place.dli_fbase == other_place.dli_fbase;
 }
 
-/* The function that knows the sizes of blocks, if it is of the same library as this one that frees them. */
-static size_t (*usable_size_of(void *frees))(void *)
+/* The next function of this name, if it is of the same library as this one that frees blocks; else NULL. */
+static void *beside_free(void *frees, const char *name)
 {
-    void *function = dlsym(RTLD_NEXT, "malloc_usable_size");
-    return function && are_of_one_library(frees, function) ? (size_t(*)(void *))function : NULL;
+    void *function = dlsym(RTLD_NEXT, name);
+    return function && are_of_one_library(frees, function) ? function : NULL;
 }
 
 #ifdef __x86_64__
@@ -88,7 +88,8 @@ int real_find(void)
     if (timed_wait)
         all.pthread_cond_timedwait = (int (*)(pthread_cond_t *, pthread_mutex_t *, deadline_t))timed_wait;
 #endif
-    all.malloc_usable_size = usable_size_of((void *)all.free);
+    all.malloc_usable_size = (size_t(*)(void *))beside_free((void *)all.free, "malloc_usable_size");
+    all.owns = (int (*)(const volatile void *))beside_free((void *)all.free, "__sanitizer_get_ownership");
     real_vfork = dlsym(RTLD_NEXT, "vfork");
     real_clone = dlsym(RTLD_NEXT, "clone");
     function = dlsym(RTLD_NEXT, "pthread_attr_getsigmask_np");

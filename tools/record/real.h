@@ -86,6 +86,7 @@ struct real_functions {
     REAL_FUNCTIONS(REAL_MEMBER)
 #undef REAL_MEMBER
     size_t (*malloc_usable_size)(void *); /* of the library that frees; NULL: it has none */
+    int (*owns)(const volatile void *);   /* of a sanitizer that frees: whether it gave a block out; else NULL */
     int (*pthread_attr_getsigmask_np)(const pthread_attr_t *, sigset_t *); /* NULL: attributes have no mask */
     void (*look_away[2])(const char *, int); /* of ThreadSanitizer, where its library watches the program; else NULL */
     void (*look_back[2])(const char *, int);

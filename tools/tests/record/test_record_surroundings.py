@@ -87,6 +87,16 @@ def test_program_with_address_sanitizer():
     assert len(run.lines()) == 8, str(run.lines())
 
 
+def test_fault_that_address_sanitizer_tells_of():
+    """It is the program's, and no question of the recorder's."""
+    command = ["gcc", "-fsanitize=address", *C_FLAGS, "-o", "freed", os.path.join(SOURCES, "freed.c")]
+    if subprocess.run(command, stderr=subprocess.PIPE).returncode != 0:
+        pytest.skip("no AddressSanitizer here")
+    run = record("./freed")
+    assert "attempting double-free on" in run.said and "malloc_usable_size" not in run.said, run.said
+    assert run.status == 1 and len(run.lines()) == 2, run.said
+
+
 def test_program_with_thread_sanitizer_of_gcc():
     """It is a library behind the recorder. Where waits for conditions went past it, it would take a mutex for locked all the while,
     and say so."""
