@@ -117,6 +117,13 @@ static int guards_from(void *library)
     return 1;
 }
 
+/* Where the C++ library is there at the start: what dlerror tells later is of the program's own calls. */
+void guards_start(void)
+{
+    guards_from(RTLD_NEXT);
+    dlerror();
+}
+
 static void guards_find(void)
 {
     static const char *const names[] = {"libstdc++.so.6", "libc++abi.so.1"};

@@ -711,6 +711,7 @@ int process_ready(void)
             return 0;
         in_slow_part = 1;
         program_find();
+        guards_start();
         unwinder_start();
         process_start(NULL);
         fork_handlers_set();

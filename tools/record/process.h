@@ -16,6 +16,9 @@ int process_ready(void);
 /* The value of a variable of the program's environment, or NULL. */
 const char *variable(const char *name);
 
+/* At the start: finds how static variables are initialised. */
+void guards_start(void);
+
 /* Sees to it that the end of this process is marked in its file. */
 void endings_start(void);
 

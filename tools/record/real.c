@@ -95,6 +95,7 @@ int real_find(void)
     function = dlsym(RTLD_NEXT, "pthread_attr_getsigmask_np");
     all.pthread_attr_getsigmask_np = (int (*)(const pthread_attr_t *, sigset_t *))function;
     watcher_find(&all);
+    dlerror(); /* what isn't there is no fault of the program's */
     real = all;
     real_found = 1;
     finding = 0;

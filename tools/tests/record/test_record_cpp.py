@@ -5,6 +5,7 @@ import re
 import shutil
 
 import pytest
+from c_programs import C_FLAGS, SOURCES, build
 from c_traces import expect, known, record
 from known_traces import RECORD, compare, cycles_in, killed
 
@@ -87,6 +88,14 @@ def test_wrappers_by_clang():
     run = record("./wrappers-clang")
     assert run.status == 0, run.said
     compare(run.lines(), known(WRAPPERS.replace("@second_end", "@second"), "wrappers.cc"))
+
+
+def test_errors_of_the_loader_are_those_of_the_program():
+    """What the recorder looks up, and doesn't find, is none of it."""
+    build("g++", [*C_FLAGS, "-o", "opens", os.path.join(SOURCES, "opens.cc"), "-ldl"])
+    run = record("./opens")
+    fault = "./no-such-library.so: cannot open shared object file: No such file or directory"
+    assert run.status == 0 and run.out == "nothing\n%s\n" % fault, run.out + run.said
 
 
 USE_A = """
