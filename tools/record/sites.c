@@ -121,11 +121,19 @@ static int is_interceptor_name(const char *symbol)
     return front >= 2 && strncmp(symbol + front, mark, sizeof mark - 1) == 0;
 }
 
+/* A scoped_lock of several locks gives them up in a lambda, which functions of the library run that are made for it. */
+static int is_of_scoped_lock(const char *symbol)
+{
+    static const char mark[] = "ZNSt11scoped_lockI";
+    const char *found = strncmp(symbol, "_ZSt", 4) == 0 ? strstr(symbol, mark) : symbol + 2;
+    return strncmp(symbol, "_Z", 2) == 0 && found && strncmp(found, mark, sizeof mark - 1) == 0;
+}
+
 static int is_wrapper_name(const char *symbol)
 {
     if ((strncmp(symbol, "_ZL", 3) == 0 && strstr(symbol, "__gthread_")) || strcmp(symbol, THREAD_ROUTINE) == 0)
         return 1;
-    if (is_interceptor_name(symbol))
+    if (is_interceptor_name(symbol) || is_of_scoped_lock(symbol))
         return 1;
     const char *at = symbol;
     if (strncmp(at, "_ZN", 3) == 0)

@@ -34,6 +34,10 @@ WRAPPERS = """
     main|tryacq(b)|@lock_both
     main|rel(a)|@both_a
     main|rel(b)|@both_b
+    main|acq(a)|@scoped_both
+    main|tryacq(b)|@scoped_both
+    main|rel(a)|@scoped_both_end
+    main|rel(b)|@scoped_both_end
     main|acq(a)|@hold
     main|fork(main.1:signaller)|@first
     main|rel(a)|@wait

@@ -73,6 +73,9 @@ int main()
     std::lock(a, b);                                  // @lock_both
     a.unlock();                                       // @both_a
     b.unlock();                                       // @both_b
+    {
+        std::scoped_lock<std::mutex, std::mutex> hold(a, b); // @scoped_both
+    }                                                 // @scoped_both_end
     std::unique_lock<std::mutex> hold(a);             // @hold
     std::thread first(signaller, 7);                  // @first
     condition.wait(hold, [] { return ready; });       // @wait
