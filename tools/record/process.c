@@ -174,13 +174,19 @@ static void slow_enter_alone(struct slow_state *state)
 
 /* --- Memory and files ----------------------------------------------------------------------------------- */
 
+/* What the recorder maps holds no locks, and is mapped past its own function. A sanitizer doesn't see it either: it
+ * would take what lies there later for what the thread wrote that mapped this. */
+void *file_pages(int file, size_t bytes, int protection, int flags)
+{
+    return (void *)syscall(SYS_mmap, NULL, bytes, protection, flags, file, 0);
+}
+
 void *pages_new(size_t bytes)
 {
-    void *pages = mmap(NULL, bytes, PROT_READ | PROT_WRITE, MAP_PRIVATE | MAP_ANONYMOUS, -1, 0);
+    void *pages = file_pages(-1, bytes, PROT_READ | PROT_WRITE, MAP_PRIVATE | MAP_ANONYMOUS);
     return pages == MAP_FAILED ? NULL : pages;
 }
 
-/* Past the recorder's own munmap, as pages of its own hold no locks. */
 void pages_drop(void *pages, size_t bytes)
 {
     syscall(SYS_munmap, pages, bytes);
@@ -210,9 +216,9 @@ void *pages_new_wiped(size_t bytes)
 static int is_file_of(int file, const char *path)
 {
     static char named[4096]; /* not on the stack, of which a thread may have little */
-    char link[32];
-    snprintf(link, sizeof link, "/proc/self/fd/%d", file);
-    ssize_t length = readlink(link, named, sizeof named - 1);
+    char link[32], digits[DIGITS];
+    text_join(link, sizeof link, "/proc/self/fd/", digits_of((uint64_t)file, digits), NULL);
+    ssize_t length = link_read(link, named, sizeof named - 1);
     if (length < 0)
         return 1;
     named[length] = 0;
@@ -253,11 +259,14 @@ static int file_new(const char *path)
  * make files there, in the directory that was made for that user. */
 static int extent_open(char *path, size_t size, uint64_t image, uint64_t number)
 {
-    unsigned long long pid = process.pid, images = image, numbers = number;
-    snprintf(path, size, "%s/%llu.%llu.%llu", process.directory, pid, images, numbers);
+    char digits[4][DIGITS];
+    const char *pid = digits_of(process.pid, digits[0]), *images = digits_of(image, digits[1]);
+    const char *numbers = digits_of(number, digits[2]);
+    text_join(path, size, process.directory, "/", pid, ".", images, ".", numbers, NULL);
     int file = file_new(path);
     if (file < 0 && errno == EACCES) {
-        snprintf(path, size, "%s/u%u/%llu.%llu.%llu", process.directory, (unsigned)geteuid(), pid, images, numbers);
+        const char *user = digits_of(geteuid(), digits[3]);
+        text_join(path, size, process.directory, "/u", user, "/", pid, ".", images, ".", numbers, NULL);
         file = file_new(path);
     }
     return file;
@@ -282,7 +291,7 @@ void *file_map(const char *path, uint64_t bytes)
     int file = file_new(path);
     void *pages = MAP_FAILED;
     if (file >= 0 && file_fill(file, bytes))
-        pages = mmap(NULL, bytes, PROT_READ | PROT_WRITE, MAP_SHARED, file, 0);
+        pages = file_pages(file, bytes, PROT_READ | PROT_WRITE, MAP_SHARED);
     if (file >= 0)
         close(file);
     return pages == MAP_FAILED ? NULL : pages;
@@ -308,7 +317,7 @@ static void *file_fit(int file, uint64_t *bytes, uint64_t least)
             errno = ENOSPC;
             continue;
         }
-        void *pages = mmap(NULL, *bytes, PROT_READ | PROT_WRITE, MAP_SHARED, file, 0);
+        void *pages = file_pages(file, *bytes, PROT_READ | PROT_WRITE, MAP_SHARED);
         if (pages != MAP_FAILED)
             return pages;
         if (ftruncate(file, 0) != 0)
@@ -543,7 +552,7 @@ static void process_unrecorded(void)
         return;
     char *mark = MAP_FAILED;
     if (fstat(file, &status) == 0 && S_ISREG(status.st_mode) && status.st_size == MARK_BYTES)
-        mark = mmap(NULL, MARK_BYTES, PROT_READ | PROT_WRITE, MAP_SHARED, file, 0);
+        mark = file_pages(file, MARK_BYTES, PROT_READ | PROT_WRITE, MAP_SHARED);
     close(file);
     if (mark == MAP_FAILED)
         return;

@@ -52,6 +52,18 @@ void signals_follow(uint64_t mask);
 void visit_begin(uint64_t *signals);
 void visit_end(const uint64_t *signals);
 
+/* Texts (texts.c): puts some, up to a NULL, one behind the other into so much room, and leaves out what has none; and a
+ * number as a text, at the end of these digits. What a file has, and where a link leads to, as read and readlink tell.
+ */
+#define DIGITS 21
+void text_join(char *to, size_t size, ...) __attribute__((sentinel));
+const char *digits_of(uint64_t number, char digits[DIGITS]);
+ssize_t bytes_read(int file, void *to, size_t size);
+ssize_t link_read(const char *path, char *to, size_t size);
+
+/* So many bytes of a file, mapped; MAP_FAILED where they can't be. */
+void *file_pages(int file, size_t bytes, int protection, int flags);
+
 /* A new file with room for so many bytes, mapped; NULL if there is none. */
 void *file_map(const char *path, uint64_t bytes);
 

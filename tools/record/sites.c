@@ -220,7 +220,7 @@ static void module_find_wrappers(struct module *module, const char *path)
         return;
     const char *bytes = MAP_FAILED;
     if (fstat(file, &status) == 0 && S_ISREG(status.st_mode) && status.st_size > 0)
-        bytes = mmap(NULL, (size_t)status.st_size, PROT_READ, MAP_PRIVATE, file, 0);
+        bytes = file_pages(file, (size_t)status.st_size, PROT_READ, MAP_PRIVATE);
     close(file);
     if (bytes == MAP_FAILED)
         return;
@@ -296,7 +296,7 @@ static int path_mapped(uintptr_t start, char *path, size_t size)
     const char *found = NULL;
     size_t kept = 0;
     ssize_t length;
-    while (file >= 0 && !found && (length = read(file, text + kept, sizeof text - 1 - kept)) > 0) {
+    while (file >= 0 && !found && (length = bytes_read(file, text + kept, sizeof text - 1 - kept)) > 0) {
         char *line = text, *end;
         text[kept + (size_t)length] = 0;
         for (; !found && (end = strchr(line, '\n')) != NULL; line = end + 1) {
@@ -304,7 +304,7 @@ static int path_mapped(uintptr_t start, char *path, size_t size)
             found = path_in_line(line, start);
         }
         if (found)
-            snprintf(path, size, "%s", found);
+            text_join(path, size, found, NULL);
         kept = strlen(line);
         memmove(text, line, kept);
     }
@@ -318,7 +318,7 @@ static int path_mapped(uintptr_t start, char *path, size_t size)
 static const char *library_file(struct module *module, const char *name)
 {
     if (name[0] == '/' || !strchr(name, '/') || !path_mapped(module->start, module->path, sizeof module->path))
-        snprintf(module->path, sizeof module->path, "%s", name);
+        text_join(module->path, sizeof module->path, name, NULL);
     return module->path;
 }
 
@@ -332,13 +332,13 @@ static int is_run_by_loader(void)
 static const char *program_file(struct module *module)
 {
     static const char program[] = "/proc/self/exe"; /* is there also where the file was deleted */
-    ssize_t length = is_run_by_loader() ? 0 : readlink(program, module->path, sizeof module->path - 1);
+    ssize_t length = is_run_by_loader() ? 0 : link_read(program, module->path, sizeof module->path - 1);
     if (length > 0) {
         module->path[length] = 0;
         return program;
     }
     if (!path_mapped(module->start, module->path, sizeof module->path))
-        snprintf(module->path, sizeof module->path, "%s", program_path);
+        text_join(module->path, sizeof module->path, program_path, NULL);
     return module->path;
 }
 
