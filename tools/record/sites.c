@@ -15,13 +15,12 @@
 #include <stdlib.h>
 #include <string.h>
 #include <sys/auxv.h>
-#include <sys/mman.h>
-#include <sys/stat.h>
 #include <unistd.h>
 #include <unwind.h>
 
 #include "confirm.h"
 #include "process.h"
+#include "view.h"
 
 #define WALK_LIMIT 24
 
@@ -166,37 +165,22 @@ static int is_wrapper_name(const char *symbol)
 /* --- Wrappers of a module --------------------------------------------------------------------------------- */
 
 /* Collects the wrappers among the symbols of one table; counts them only where `ranges` is NULL. */
-static size_t wrappers_among(const char *file, size_t size, const ElfW(Shdr) * table, const ElfW(Shdr) * strings,
+static size_t wrappers_among(const struct view *file, const ElfW(Shdr) * table, const ElfW(Shdr) * strings,
                              uintptr_t bias, struct range *ranges)
 {
-    if (table->sh_offset + table->sh_size > size || strings->sh_offset + strings->sh_size > size ||
-        strings->sh_size == 0 || file[strings->sh_offset + strings->sh_size - 1] != 0)
-        return 0;
-    const ElfW(Sym) *symbols = (const ElfW(Sym) *)(file + table->sh_offset);
+    const ElfW(Sym) *symbols = (const ElfW(Sym) *)(file->bytes + table->sh_offset);
+    const char *names = file->bytes + strings->sh_offset;
     size_t found = 0;
     for (size_t i = 0; i < table->sh_size / sizeof *symbols; i++) {
         const ElfW(Sym) *symbol = &symbols[i];
         if (ELF64_ST_TYPE(symbol->st_info) != STT_FUNC || symbol->st_size == 0 || symbol->st_name >= strings->sh_size ||
-            !is_wrapper_name(file + strings->sh_offset + symbol->st_name))
+            !is_wrapper_name(names + symbol->st_name))
             continue;
         if (ranges)
             ranges[found] = (struct range){bias + symbol->st_value, bias + symbol->st_value + symbol->st_size};
         found++;
     }
     return found;
-}
-
-static const ElfW(Shdr) * symbol_table(const char *file, size_t size)
-{
-    const ElfW(Ehdr) *head = (const ElfW(Ehdr) *)file;
-    if (size < sizeof *head || memcmp(head->e_ident, ELFMAG, SELFMAG) != 0 || head->e_shentsize != sizeof(ElfW(Shdr)) ||
-        head->e_shoff + head->e_shnum * sizeof(ElfW(Shdr)) > size)
-        return NULL;
-    const ElfW(Shdr) *sections = (const ElfW(Shdr) *)(file + head->e_shoff);
-    for (unsigned i = 0; i < head->e_shnum; i++)
-        if (sections[i].sh_type == SHT_SYMTAB && sections[i].sh_link < head->e_shnum)
-            return &sections[i];
-    return NULL;
 }
 
 /* That of the module before in this place, if there are as many: another thread may still be reading it. */
@@ -212,30 +196,32 @@ static struct range *wrappers_room(struct module *module, size_t count)
     return module->wrappers;
 }
 
+/* Whether the file has symbols. */
+static int module_read_wrappers(struct module *module, const struct view *file)
+{
+    const ElfW(Shdr) *table = view_section(file, SHT_SYMTAB, NULL);
+    const ElfW(Shdr) *strings = table ? view_linked(file, table) : NULL;
+    if (!strings)
+        return 0;
+    size_t count = wrappers_among(file, table, strings, module->bias, NULL);
+    struct range *ranges = wrappers_room(module, count);
+    if (ranges) {
+        wrappers_among(file, table, strings, module->bias, ranges);
+        module->wrapper_count = count;
+    }
+    return 1;
+}
+
 static void module_find_wrappers(struct module *module, const char *path)
 {
-    int file = open(path, O_RDONLY | O_CLOEXEC);
-    struct stat status;
-    if (file < 0)
+    struct view file, debug;
+    if (!view_open(&file, path))
         return;
-    const char *bytes = MAP_FAILED;
-    if (fstat(file, &status) == 0 && S_ISREG(status.st_mode) && status.st_size > 0)
-        bytes = file_pages(file, (size_t)status.st_size, PROT_READ, MAP_PRIVATE);
-    close(file);
-    if (bytes == MAP_FAILED)
-        return;
-    size_t size = (size_t)status.st_size;
-    const ElfW(Shdr) *table = symbol_table(bytes, size);
-    if (table) {
-        const ElfW(Shdr) *strings = (const ElfW(Shdr) *)(bytes + ((const ElfW(Ehdr) *)bytes)->e_shoff) + table->sh_link;
-        size_t count = wrappers_among(bytes, size, table, strings, module->bias, NULL);
-        struct range *ranges = wrappers_room(module, count);
-        if (ranges) {
-            wrappers_among(bytes, size, table, strings, module->bias, ranges);
-            module->wrapper_count = count;
-        }
+    if (!module_read_wrappers(module, &file) && view_open_debug(&debug, &file, module->path)) {
+        module_read_wrappers(module, &debug);
+        view_close(&debug);
     }
-    pages_drop((void *)bytes, size);
+    view_close(&file);
 }
 
 static int is_wrapper(uintptr_t return_address)

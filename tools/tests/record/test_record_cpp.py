@@ -3,11 +3,12 @@
 import os
 import re
 import shutil
+import subprocess
 
 import pytest
 from c_programs import C_FLAGS, SOURCES, build
 from c_traces import expect, known, record
-from known_traces import RECORD, compare, cycles_in, killed
+from known_traces import RECORD, compare, cycles_in, killed, read_lines
 
 WRAPPERS = """
     main|acq(a)|@lock
@@ -84,6 +85,47 @@ def test_wrappers_of_a_program_that_the_loader_is_given():
     run = record(os.fsdecode(loader.group()), "./wrappers-static")
     assert run.status == 0, run.said
     compare(run.lines(), known(WRAPPERS, "wrappers.cc"))
+
+
+def split_off(program, file, more=()):
+    """Puts the symbols and lines of the program whose wrappers are calls into a file of this name."""
+    for arguments in (
+        ["objcopy", "--only-keep-debug", "wrappers-O0", file],
+        ["objcopy", "--strip-all", *more, "wrappers-O0", program],
+    ):
+        subprocess.run(arguments, check=True)
+
+
+@pytest.mark.parametrize("number", ["told", "untold"])
+@pytest.mark.parametrize("place", [".", ".debug"])
+def test_wrappers_of_a_program_that_names_its_debug_file(number, place):
+    """By the number of the build, where both tell it, or else by the checksum it is that of the program. The places of the calls are
+    the program's then."""
+    if number == "untold":
+        command = ["objcopy", "--remove-section=.note.gnu.build-id", "wrappers-O0", "untold"]
+        subprocess.run(command, check=True)
+        os.replace("untold", "wrappers-O0")
+    split_off("split", "other.name", ["--add-gnu-debuglink=other.name"])
+    os.makedirs(place, exist_ok=True)
+    os.replace("other.name", os.path.join(place, "other.name"))
+    run = record("./split")
+    assert run.status == 0, run.said
+    compare(run.lines(), known(WRAPPERS, "wrappers.cc"))
+
+
+def test_wrappers_of_a_program_whose_debug_file_is_known_by_the_build():
+    """It lies in the folder of all debug files, of which this test has one of its own."""
+    split_off("split", "other.name")
+    notes = subprocess.run(["readelf", "-n", "split"], stdout=subprocess.PIPE).stdout.decode()
+    number = re.search(r"Build ID: (\w+)", notes).group(1)
+    folder = "/usr/lib/debug/.build-id/" + number[:2]
+    script = 'mount -t tmpfs tmpfs /usr/lib/debug && mkdir -p "$1" && cp other.name "$1/$2" && shift 2 && exec "$@"'
+    words = ["unshare", "-m", "sh", "-c", script, "sh", folder, number[2:] + ".debug"]
+    if subprocess.run([*words, "true"], stderr=subprocess.PIPE).returncode != 0:
+        pytest.skip("no namespace of mounts can be had, or there is no folder of debug files")
+    done = subprocess.run([*words, RECORD, "-o", "t.std", "./split"], stderr=subprocess.PIPE)
+    assert done.returncode == 0, done.stderr.decode()
+    compare(read_lines("t.std"), known(WRAPPERS, "wrappers.cc"))
 
 
 @pytest.mark.skipif(not shutil.which("clang++"), reason="clang++ isn't installed")
