@@ -33,8 +33,9 @@ int confirming;
 
 /* --- The plan --------------------------------------------------------------------------------------------- */
 
-/* Lines: first `EDGES MILLISECONDS`, then `ROLE OFFSET PATH` for each place, the offset in hexadecimal. The role is the
- * edge's number for the place where its lock is wanted, and 16 more for the one where the held lock was acquired. */
+/* Lines: first `EDGES MILLISECONDS`, then `ROLE OFFSET BYTES PATH` for each place, the offset in hexadecimal, and how
+ * many bytes the path has, of which one may be the end of a line. The role is the edge's number for the place where its
+ * lock is wanted, and 16 more for the one where the held lock was acquired. */
 static char *plan;
 static unsigned plan_edges, plan_milliseconds;
 static uint32_t *roles;
@@ -54,13 +55,15 @@ static char *file_read(const char *path)
 
 void confirm_site(uint64_t site, const char *path, uint64_t offset)
 {
-    for (char *line = strchr(plan, '\n'); line && line[1] && site < ROLE_SITES; line = strchr(line + 1, '\n')) {
-        char *rest;
-        unsigned role = (unsigned)strtoul(line + 1, &rest, 10);
-        uint64_t wanted = strtoull(rest, &rest, 16);
-        size_t length = strcspn(rest + 1, "\n");
-        if (role < 2 * EDGE_LIMIT && wanted == offset && strlen(path) == length && memcmp(path, rest + 1, length) == 0)
+    char *end = strchr(plan, '\n');
+    while (end && end[0] == '\n' && end[1] && site < ROLE_SITES) {
+        unsigned role = (unsigned)strtoul(end + 1, &end, 10);
+        uint64_t wanted = strtoull(end, &end, 16);
+        size_t length = strtoull(end, &end, 10);
+        const char *its = end + 1;
+        if (role < 2 * EDGE_LIMIT && wanted == offset && strlen(path) == length && memcmp(path, its, length) == 0)
             roles[site] |= 1u << role;
+        end += 1 + length;
     }
 }
 

@@ -28,10 +28,26 @@ sys.path.insert(0, SOURCES)
 sys.pycache_prefix = os.path.join(os.path.dirname(SOURCES), "out", "python")
 
 from build import BuildError  # noqa: E402
-from convert import ConvertError, Sources, clean, name_process, read_processes, without_parameters  # noqa: E402
+from convert import (  # noqa: E402
+    ConvertError,
+    Sources,
+    clean,
+    name_process,
+    read_processes,
+    take_name,
+    without_parameters,
+)
 from family import Family, adopt_orphans, descendants, send_signal  # noqa: E402
 from findings import ReportError, read_findings  # noqa: E402
-from launch import VERSION, Failed, Preload, child_environment, fill_closed_descriptors  # noqa: E402
+from launch import (  # noqa: E402
+    VERSION,
+    Failed,
+    Preload,
+    child_environment,
+    fill_closed_descriptors,
+    print_text,
+    tell,
+)
 from recording import new_recording  # noqa: E402
 from symbols import demangled  # noqa: E402
 
@@ -50,13 +66,14 @@ OBJECT_SHIFT, SITE_SHIFT, SITE_MASK, KIND_MASK = 32, 5, (1 << 27) - 1, 31
 SHARED = (3, 6)
 # Where in a mutex of glibc its owner stands.
 MUTEX_OWNER = 8
+# Bytes that a file of the outcome is given before the runs: it seldom has more.
+OUTPUT_ROOM = 1 << 16
 
 USAGE = "usage: goodlock-confirm [--finding N] [--tries N] [--seconds S] [-o FILE] REPORT.json -- PROGRAM [ARGUMENT..]"
 
 
 def say(text):
-    sys.stderr.write("goodlock-confirm: " + text + "\n")
-    sys.stderr.flush()
+    tell("goodlock-confirm", text)
 
 
 # --- Arguments --------------------------------------------------------------------------------------
@@ -81,10 +98,10 @@ def read_number(word, text):
 def read_arguments(arguments):
     settings = Settings()
     if arguments in (["-h"], ["--help"]):
-        print(__doc__.strip())
+        print_text(__doc__.strip())
         sys.exit(0)
     if arguments in (["-V"], ["--version"]):
-        print("goodlock-confirm " + VERSION)
+        print_text("goodlock-confirm " + VERSION)
         sys.exit(0)
     rest = list(arguments)
     while rest and rest[0] != "--":
@@ -233,7 +250,9 @@ class Places:
 
     def plan(self, milliseconds):
         lines = ["%d %d" % (len(self.edges), milliseconds)]
-        lines += ["%d %x %s" % place for place in sorted(self.known)]
+        lines += [
+            "%d %x %d %s" % (role, offset, len(os.fsencode(path)), path) for role, offset, path in sorted(self.known)
+        ]
         return "\n".join(lines) + "\n"
 
 
@@ -417,27 +436,38 @@ def outcome_of(settings, finding, directory, preload):
     return None, settings.tries, late
 
 
-def write_output(path, finding, deadlock, number, lines):
-    """For tools: what came about, whole or not at all."""
-    value = {
-        "outcome": "deadlocked" if deadlock else "not seen",
-        "pairs": [list(pair) for pair in finding.pairs],
-        "text": lines,
-        "tries": number,
-    }
-    text = json.dumps(value, sort_keys=True, separators=(",", ":")) + "\n"
-    aside = path + ".part.%s" % os.urandom(4).hex()
-    try:
-        with open(aside, "x") as file:
-            file.write(text)
-        os.rename(aside, path)
-    except OSError as error:
-        if os.path.exists(aside):
-            os.unlink(aside)
-        raise Failed("%s: %s" % (path, error.strerror))
+class Output:
+    """The outcome for tools: a file that is there whole, or not at all. Whether it can be written is seen before anything is run: it is
+    made aside then, with room for what it mostly has."""
+
+    def __init__(self, path):
+        self.path = path
+        self.aside = path + ".part.%s" % os.urandom(4).hex()
+        try:
+            with open(self.aside, "xb") as file:
+                file.write(bytes(OUTPUT_ROOM))
+        except OSError as error:
+            self.remove()
+            raise Failed("%s: %s; nothing was run" % (path, error.strerror))
+
+    def write(self, value):
+        text = json.dumps(value, sort_keys=True, separators=(",", ":")) + "\n"
+        try:
+            with open(self.aside, "r+b") as file:
+                file.write(text.encode())
+                file.truncate()
+            take_name(self.aside, self.path)
+        except OSError as error:
+            raise Failed("%s: %s" % (self.path, error.strerror))
+
+    def remove(self):
+        """What stands aside, if it does."""
+        if os.path.lexists(self.aside):
+            os.unlink(self.aside)
 
 
-def confirm(settings, finding):
+def run_and_tell(settings, finding, output):
+    """All tries; their outcome on standard output and, where that is asked for, in a file."""
     preload = Preload()
     directory = tempfile.mkdtemp(prefix="goodlock-confirm.")
     try:
@@ -451,10 +481,23 @@ def confirm(settings, finding):
         lines = ["not seen in %d tries" % number if number > 1 else "not seen in 1 try"]
         if late:
             lines[0] += ", %d runs ended after %d seconds" % (late, settings.seconds)
-    print("\n".join(lines))
-    if settings.output is not None:
-        write_output(settings.output, finding, deadlock, number, lines)
+    try:
+        print_text("\n".join(lines))
+    finally:
+        if output:
+            pairs = [list(pair) for pair in finding.pairs]
+            outcome = "deadlocked" if deadlock else "not seen"
+            output.write({"outcome": outcome, "pairs": pairs, "text": lines, "tries": number})
     return STATUS_DEADLOCKED if deadlock else STATUS_NOT_SEEN
+
+
+def confirm(settings, finding):
+    output = Output(settings.output) if settings.output is not None else None
+    try:
+        return run_and_tell(settings, finding, output)
+    finally:
+        if output:
+            output.remove()
 
 
 def main():
@@ -469,7 +512,8 @@ def main():
     if not adopt_orphans():
         raise Failed("Python's ctypes is missing")
     for number in (signal.SIGTERM, signal.SIGHUP):
-        signal.signal(number, lambda *_: sys.exit(STATUS_ERROR))
+        if signal.getsignal(number) != signal.SIG_IGN:  # as under nohup
+            signal.signal(number, lambda *_: sys.exit(STATUS_ERROR))
     return confirm(settings, finding)
 
 
@@ -483,5 +527,5 @@ if __name__ == "__main__":
     except KeyboardInterrupt:
         say("interrupted")
     except Exception:  # its own status 1 would say that there is a deadlock
-        traceback.print_exc()
+        say(traceback.format_exc().rstrip())
     sys.exit(STATUS_ERROR)

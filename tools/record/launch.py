@@ -99,15 +99,29 @@ class Recorder:
 recorder = Recorder()
 
 
-def say(text):
-    """A line on standard error. Where that is closed, or on a full disk, nobody hears it: nothing is kept of it that Python would try
-    to write in the end, with a status of its own if it can't."""
+def tell(name, text):
+    """A line on standard error, in this command's name. Where that is closed, or on a full disk, nobody hears it: nothing is kept of it
+    that Python would try to write in the end, with a status of its own if it can't."""
     try:
         if sys.stderr:
-            line = "%s: %s\n" % (recorder.name, text)
+            line = "%s: %s\n" % (name, text)
             os.write(sys.stderr.fileno(), line.encode(sys.stderr.encoding, "backslashreplace"))
     except OSError:
         pass
+
+
+def say(text):
+    tell(recorder.name, text)
+
+
+def print_text(text):
+    """On standard output, at once: nothing is left that Python would try to write in the end, with a status of its own if it can't."""
+    data = (text + "\n").encode("utf-8", "backslashreplace")
+    try:
+        while data:
+            data = data[os.write(1, data) :]
+    except OSError as error:
+        raise Failed("standard output: %s" % error.strerror)
 
 
 def fill_closed_descriptors():
@@ -189,10 +203,10 @@ def read_arguments(
         if word == "--":
             break
         if word in ("-h", "--help"):
-            print(explanation.strip())
+            print_text(explanation.strip())
             sys.exit(0)
         if word in ("-V", "--version"):
-            print("%s %s" % (recorder.name, VERSION))
+            print_text("%s %s" % (recorder.name, VERSION))
             sys.exit(0)
         if word in flags:
             setattr(settings, word[2:], True)

@@ -2,12 +2,16 @@
 
 import json
 import os
+import signal
 import subprocess
 
+import pytest
+from c_programs import NO_DISK, SmallDisk
 from confirming import (
     CONFIRM,
     DEADLOCKED,
     ERROR,
+    NOT_SEEN,
     PATIENTLY,
     VIEW,
     check_that_nothing_is_left,
@@ -15,7 +19,7 @@ from confirming import (
     false_alarm,
     run,
 )
-from known_traces import LIMIT
+from known_traces import LIMIT, processes_in, wait_for
 
 
 def test_output_for_tools(predict):
@@ -79,6 +83,100 @@ def test_errors(predict):
             status,
             said,
         )
+
+
+def refuses_to_write(path, predict):
+    """Nothing is run whose outcome couldn't be written; what is said."""
+    status, out, said = run(["--tries", "1", "-o", path, predict("opposite"), "--", "sh", "-c", "touch was-run"])
+    assert status == ERROR and out == "", "status %d: %s%s" % (status, out, said)
+    assert not os.path.exists("was-run"), "the program was run"
+    return said
+
+
+def test_output_in_a_folder_that_isnt_there(predict):
+    said = refuses_to_write("no-folder/confirmed.json", predict)
+    assert said == "goodlock-confirm: no-folder/confirmed.json: No such file or directory; nothing was run\n", said
+
+
+def test_output_on_a_full_disk(predict):
+    with SmallDisk("32k") as has_disk:
+        if not has_disk:
+            pytest.skip(NO_DISK)
+        said = refuses_to_write("small/confirmed.json", predict)
+        assert said == "goodlock-confirm: small/confirmed.json: No space left on device; nothing was run\n", said
+        assert os.listdir("small") == []
+
+
+def test_output_that_came_meanwhile(predict):
+    """Another one's file is kept."""
+    words = [
+        "--tries",
+        "1",
+        "-o",
+        "confirmed.json",
+        predict("opposite"),
+        "--",
+        "sh",
+        "-c",
+        "echo other > confirmed.json",
+    ]
+    status, out, said = run(words)
+    assert status == ERROR and "confirmed.json exists already" in said, "status %d: %s" % (status, said)
+    assert out == "not seen in 1 try\n", out
+    with open("confirmed.json") as file:
+        assert file.read() == "other\n", "the file was changed"
+    assert [name for name in os.listdir(".") if name.startswith("confirmed.json.")] == []
+
+
+def test_outcome_where_standard_error_is_on_a_full_disk(predict):
+    """What would be said there is lost, and the outcome is as ever: its status is none of Python's, which means a deadlock."""
+    with open("/dev/full", "wb") as full:
+        words = [CONFIRM, "--tries", "1", predict("opposite"), "--", "true"]
+        done = subprocess.run(words, stdout=subprocess.PIPE, stderr=full, timeout=LIMIT)
+        refused = subprocess.run([CONFIRM], stdout=subprocess.PIPE, stderr=full, timeout=LIMIT)
+    assert done.returncode == NOT_SEEN and done.stdout == b"not seen in 1 try\n", done
+    assert refused.returncode == ERROR and refused.stdout == b"", refused
+
+
+def test_outcome_where_standard_output_is_on_a_full_disk(predict):
+    """That is an error, and the file has the outcome all the same."""
+    with open("/dev/full", "wb") as full:
+        words = [CONFIRM, "--tries", "1", "-o", "confirmed.json", predict("opposite"), "--", "true"]
+        done = subprocess.run(words, stdout=full, stderr=subprocess.PIPE, timeout=LIMIT)
+    assert done.returncode == ERROR, done
+    assert done.stderr.endswith(b"goodlock-confirm: standard output: No space left on device\n"), done.stderr.decode()
+    with open("confirmed.json") as file:
+        assert json.load(file)["text"] == ["not seen in 1 try"]
+
+
+def test_program_whose_path_has_an_end_of_a_line(predict):
+    """Its threads are steered as those of others are."""
+    os.mkdir("two\nlines")
+    os.link("cycles", "two\nlines/cycles")
+    words = [*PATIENTLY, predict("opposite"), "--", "two\nlines/cycles", "opposite"]
+    status, out, said = run(words)
+    assert status == DEADLOCKED, "status %d: %s%s" % (status, out, said)
+
+
+def name_of(process):
+    """That of its program; none where it has just ended."""
+    try:
+        with open("/proc/%d/comm" % process) as file:
+            return file.read().strip()
+    except OSError:
+        return None
+
+
+def test_hangup_that_is_ignored(predict, folder):
+    """As under nohup: it goes on, and tells its outcome."""
+    words = [CONFIRM, "--tries", "1", "--seconds", "4", predict("opposite"), "--", "sleep", "60"]
+    running = subprocess.Popen(
+        words, stdout=subprocess.PIPE, preexec_fn=lambda: signal.signal(signal.SIGHUP, signal.SIG_IGN)
+    )
+    wait_for(lambda: "sleep" in map(name_of, processes_in(folder)), "the program to run")
+    running.send_signal(signal.SIGHUP)
+    out, _ = running.communicate(timeout=LIMIT)
+    assert running.returncode == NOT_SEEN and out == b"not seen in 1 try, 2 runs ended after 4 seconds\n", out.decode()
 
 
 def test_nothing_is_left(predict, folder):

@@ -199,6 +199,16 @@ def test_standard_error_on_a_full_disk(options):
     assert done.returncode == 5 and os.path.exists("t.std")
 
 
+@pytest.mark.parametrize("option", ["--help", "--version"])
+@pytest.mark.parametrize("command", ["goodlock-record", "goodlock-confirm"])
+def test_standard_output_on_a_full_disk(command, option):
+    """What can't be told is an error of the command's, with a status of its own."""
+    with open("/dev/full", "wb") as full:
+        done = subprocess.run([os.path.join(TOOLS, command), option], stdout=full, stderr=subprocess.PIPE)
+    said = done.stderr.decode()
+    assert done.returncode == REFUSED and said == f"{command}: standard output: No space left on device\n", said
+
+
 def test_an_earlier_preload_library_has_the_waits():
     """Its functions have no version, as those of the C library have, of which there are two."""
     environment = dict(os.environ, LD_PRELOAD=os.path.abspath("libwaits.so"))
