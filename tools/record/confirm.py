@@ -45,6 +45,7 @@ from launch import (  # noqa: E402
     Preload,
     child_environment,
     fill_closed_descriptors,
+    forget_locale,
     print_text,
     tell,
 )
@@ -502,6 +503,7 @@ def confirm(settings, finding):
 
 def main():
     fill_closed_descriptors()
+    forget_locale()
     settings = read_arguments(sys.argv[1:])
     findings = read_findings(settings.report)
     if settings.finding > len(findings):

@@ -134,6 +134,20 @@ def fill_closed_descriptors():
             os.open(os.devnull, os.O_RDWR | os.O_CLOEXEC)
 
 
+def forget_locale():
+    """Where no locale is asked for Python sets LC_CTYPE, for itself and for all that it starts. The program has it as who asked: the
+    system still tells the variables with which this process began."""
+    try:
+        with open("/proc/self/environ", "rb") as file:
+            given = dict(word.split(b"=", 1) for word in file.read().split(b"\0") if b"=" in word)
+    except OSError:
+        return
+    if given.get(b"LC_CTYPE") is None:
+        os.environ.pop("LC_CTYPE", None)
+    else:
+        os.environb[b"LC_CTYPE"] = given[b"LC_CTYPE"]
+
+
 # --- Arguments --------------------------------------------------------------------------------------
 
 
@@ -500,6 +514,7 @@ def main(read, used):
     global recorder
     recorder = used
     fill_closed_descriptors()
+    forget_locale()
     try:
         return run(read(sys.argv[1:]))
     except Failed as failure:

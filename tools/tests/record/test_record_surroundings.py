@@ -163,6 +163,16 @@ def test_program_has_the_variables_of_who_asked(options):
     assert told.stdout.decode().split() == names, told.stdout.decode()
 
 
+@pytest.mark.parametrize("given", [None, "C", "POSIX"])
+def test_program_has_the_locale_of_who_asked(given):
+    """Where that is none but the C locale, Python sets another one for itself."""
+    environment = {name: word for name, word in os.environ.items() if name != "LANG" and not name.startswith("LC_")}
+    if given is not None:
+        environment["LC_CTYPE"] = given
+    run = record("sh", "-c", 'echo "${LC_CTYPE-none}"', environment=environment)
+    assert run.out == "%s\n" % (given or "none"), run.out + run.said
+
+
 def test_signal_before_the_program_is_there():
     """With --live it would ask for a report: there is none yet, and the recorder doesn't end by it. The program's child goes on until
     its standard input ends, so the recorder is there until then."""
