@@ -221,16 +221,17 @@ class Family:
                 self.hand_on(info.si_signo)
 
 
-def start(command, environment, mask):
-    """Starts the program, with the signals blocked that were so before; its number, or the error that it wasn't started for,
-    which comes over a pipe."""
+def start(command, environment, mask, ignored=()):
+    """Starts the program, with the signals blocked that were so before, and those `ignored` that were so before Python came; its
+    number, or the error that it wasn't started for, which comes over a pipe."""
     reading, writing = os.pipe()
     process = os.fork()
     if process == 0:
         try:
             os.close(reading)
             for number in (signal.SIGPIPE, signal.SIGXFSZ):  # Python ignores these
-                signal.signal(number, signal.SIG_DFL)
+                if number not in ignored:
+                    signal.signal(number, signal.SIG_DFL)
             signal.pthread_sigmask(signal.SIG_SETMASK, mask)
             os.execvpe(command[0], command, environment)
         except OSError as error:

@@ -44,6 +44,7 @@ MODES = ("basic", "guarded", "full")
 LENGTHS, COUNTS = (2, 16), (1, 100000)
 MODE, LENGTH, COUNT = "full", 4, 1000
 USR1_WAS_DEFAULT = "GOODLOCK_RECORD_USR1"  # the script ignores that signal up to here
+WERE_IGNORED = "GOODLOCK_RECORD_IGNORED"  # the signals that were ignored before Python came, as a mask in hexadecimal
 LIVE_VALUES = ("every", "mode", "len", "max")  # options that take a value with --live alone
 LIVE_FLAGS = ("findings",)  # and that take none
 # The loader takes these in the path of a preload library as separators and variables.
@@ -309,10 +310,19 @@ def child_environment(settings, directory, preload):
 # --- The run ------------------------------------------------------------------------------------------
 
 
-def started_program(settings, environment, mask):
+def were_ignored():
+    """Which signals were ignored before Python came; none where nobody told."""
+    try:
+        mask = int(os.environ.pop(WERE_IGNORED, ""), 16)
+    except ValueError:
+        return ()
+    return [number for number in range(1, 65) if mask >> number - 1 & 1]
+
+
+def started_program(settings, environment, mask, ignored):
     from family import start
 
-    process, fault = start(settings.command, environment, mask)
+    process, fault = start(settings.command, environment, mask, ignored)
     if process is None:
         status = STATUS_NOT_FOUND if fault in (2, 20) else STATUS_NOT_EXECUTABLE
         raise Failed("%s: %s" % (settings.command[0], os.strerror(fault)), status)
@@ -328,7 +338,7 @@ def record(settings):
     recorder.prepare()
     for name in ("goodlock_lines",) + ("goodlock_live",) * settings.live:
         built_before(name)
-    mask = signal.pthread_sigmask(signal.SIG_BLOCK, WAITED)  # none ends this half way
+    mask, ignored = signal.pthread_sigmask(signal.SIG_BLOCK, WAITED), were_ignored()  # none ends this half way
     if os.environ.pop(USR1_WAS_DEFAULT, None):
         signal.signal(signal.SIGUSR1, signal.SIG_DFL)
     try:
@@ -342,7 +352,7 @@ def record(settings):
         say("processes that outlive their parents aren't waited for: Python's ctypes is missing")
     family = Family(recording, say)
     try:
-        process = started_program(settings, environment, mask)
+        process = started_program(settings, environment, mask, ignored)
         if settings.live:
             follow(settings, recording, process, family)
         status = family.wait_for_first(process)

@@ -139,7 +139,9 @@ def test_thread_sanitizer_tells_nothing_of_the_recorder(compiler):
 
 
 def become_ignorant():
-    signal.signal(signal.SIGUSR1, signal.SIG_IGN)
+    """Also of what Python ignores for itself."""
+    for number in (signal.SIGUSR1, signal.SIGPIPE, signal.SIGXFSZ):
+        signal.signal(number, signal.SIG_IGN)
 
 
 @pytest.mark.parametrize("before", [None, become_ignorant], ids=["default", "ignored"])
@@ -169,8 +171,8 @@ def test_program_has_the_locale_of_who_asked(given):
     environment = {name: word for name, word in os.environ.items() if name != "LANG" and not name.startswith("LC_")}
     if given is not None:
         environment["LC_CTYPE"] = given
-    run = record("sh", "-c", 'echo "${LC_CTYPE-none}"', environment=environment)
-    assert run.out == "%s\n" % (given or "none"), run.out + run.said
+    run = record("sh", "-c", 'echo "${LC_CTYPE-none}"; env | grep -c RECORD_IGNORED', environment=environment)
+    assert run.out == "%s\n0\n" % (given or "none"), run.out + run.said
 
 
 def test_signal_before_the_program_is_there():
