@@ -20,7 +20,7 @@ def newest_source(name):
         newest = max(newest, os.stat(ARCHIVE).st_mtime)
     for directory, _, names in os.walk(SOURCES):
         for name in names:
-            if name.endswith((".c", ".h")):
+            if name.endswith((".c", ".h", ".map")):
                 newest = max(newest, os.stat(os.path.join(directory, name)).st_mtime)
     return newest
 

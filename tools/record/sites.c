@@ -111,13 +111,20 @@ static int is_thread_wrapper(const char *rest)
 /* What the C++ library's threads begin with. */
 #define THREAD_ROUTINE "execute_native_thread_routine"
 
+/* What ThreadSanitizer, where Clang links it into the program, has around a wait for a condition. */
+static int is_of_wait(const char *symbol)
+{
+    static const char own[] = "_ZN6__tsan", waits[] = "_ZZ9cond_waitIZ";
+    return strncmp(symbol, own, sizeof own - 1) == 0 || strncmp(symbol, waits, sizeof waits - 1) == 0;
+}
+
 /* What a sanitizer that Clang links into the program has before the functions of the C library: two underscores or
  * more, and then this. */
 static int is_interceptor_name(const char *symbol)
 {
     static const char mark[] = "interceptor_";
     size_t front = strspn(symbol, "_");
-    return front >= 2 && strncmp(symbol + front, mark, sizeof mark - 1) == 0;
+    return (front >= 2 && strncmp(symbol + front, mark, sizeof mark - 1) == 0) || is_of_wait(symbol);
 }
 
 /* A scoped_lock of several locks gives them up in a lambda, which functions of the library run that are made for it. */

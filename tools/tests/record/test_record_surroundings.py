@@ -2,6 +2,7 @@
 
 import glob
 import os
+import platform
 import shutil
 import signal
 import subprocess
@@ -120,6 +121,32 @@ def test_program_with_thread_sanitizer_of_clang():
     run = record("./locks-tsan", "table")
     assert run.status == 0, run.said
     compare(run.lines(), known("main|acq(many+0x78)|@table\nmain|rel(many+0x78)|@table_end"))
+
+
+@pytest.mark.skipif(platform.machine() != "x86_64", reason="the C library has one version of the waits here")
+def test_waits_with_thread_sanitizer_of_clang():
+    """It asks for the C library's waits by their version, and has some functions of its own around them."""
+    command = ["clang", "-fsanitize=thread", *C_FLAGS, "-o", "locks-tsan", os.path.join(SOURCES, "locks.c")]
+    if not shutil.which("clang") or subprocess.run(command, stderr=subprocess.PIPE).returncode != 0:
+        pytest.skip("no ThreadSanitizer of Clang here")
+    if subprocess.run(["./locks-tsan", "conditions"], stderr=subprocess.PIPE).returncode != 0:
+        pytest.skip("ThreadSanitizer doesn't run here")
+    run = record("./locks-tsan", "conditions")
+    assert run.status == 0 and "ThreadSanitizer" not in run.said, run.said
+    compare(
+        [line for line in run.lines() if "(a)" in line and line.startswith("main|")],
+        known(
+            """
+        main|acq(a)|@cond_lock
+        main|rel(a)|@cond_timed
+        main|acq(a)|@cond_timed
+        main|rel(a)|@cond_clock
+        main|acq(a)|@cond_clock
+        main|rel(a)|@cond_wait
+        main|acq(a)|@cond_wait
+        main|rel(a)|@cond_unlock"""
+        ),
+    )
 
 
 @pytest.mark.parametrize("compiler", ["gcc", "clang"])
