@@ -49,6 +49,9 @@ NAME_LIMIT = 20000  # bytes: a line, which has a thread, a lock or another threa
 # In the mangled name of the class of what a thread of the C++ library runs: how the first of what the thread was given begins where
 # a word of the object points to it. It is a function, a member's, one in a std::function, or one that std::bind binds.
 FUNCTION_GIVEN = re.compile(r"St5tupleIJ(PF|M|St8functionI|St5_BindI)")
+# The same in the start routine of a thread of LLVM's C++ library: where it is a function, a member's, or bound, the second word of the
+# object points to it.
+FUNCTION_GIVEN_BY_LLVM = re.compile(r"14__thread_proxy\w*?15__thread_struct\w*?EEEE(PF|M|NS_6__bindI)")
 
 
 class ConvertError(Exception):
@@ -553,11 +556,14 @@ class Names:
     def routine_of(self, thread):
         """The symbol of the start routine. A thread of the C++ library's runs an object: a function that it points to,
         else its class. Of an object that has none no word is looked at: behind its end lies what others left."""
+        routine = self.symbol_of(thread.routine, thread.when)
         if not any(thread.object):
-            return self.symbol_of(thread.routine, thread.when)
-        table = self.symbol_of(thread.object[0], thread.when)
-        if FUNCTION_GIVEN.search(table):
-            for word in thread.object[1:]:
+            return routine
+        table, shape, words = self.symbol_of(thread.object[0], thread.when), FUNCTION_GIVEN, thread.object[1:]
+        if "14__thread_proxy" in routine:
+            table, shape, words = routine, FUNCTION_GIVEN_BY_LLVM, words[:1]
+        if shape.search(table):
+            for word in words:
                 name = self.symbol_of(word, thread.when, begins=True)
                 if name and not name.startswith("_ZT"):
                     return name
@@ -664,11 +670,13 @@ class Names:
 
 
 # Of what stands for a function without a name of its own: what the thread was given, in the class that it runs, in what std::async
-# runs, and in a std::function.
+# runs, and in a std::function; and the same of LLVM's C++ library.
 OBJECTS = [
     re.compile(r"vtable for std::thread::_State_impl<.*?tuple<(.*)> *> *>$"),
     re.compile(r"std::__future_base::_Async_state_impl<.*?tuple<(.*)> *>, .*>::_M_run\b"),
     re.compile(r"std::_Function_handler<.*?\), (.*)>::_M_\w+"),
+    re.compile(r"std::__1::__thread_proxy.*?__async_func<(.*?)>"),
+    re.compile(r"std::__1::__thread_proxy.*?tuple<std::__1::unique_ptr<.*?> >, (.*)> *>"),
 ]
 
 

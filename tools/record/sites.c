@@ -28,6 +28,7 @@
 
 struct range {
     uintptr_t start, end;
+    int runs_object; /* no wrapper, but what a thread of LLVM's C++ library begins with */
 };
 
 struct module {
@@ -83,21 +84,30 @@ static int is_inner_namespace(const char *name, size_t length)
            (length == 8 && memcmp(name, "__detail", 8) == 0) || (length == 7 && memcmp(name, "__cxx11", 7) == 0);
 }
 
+/* What is behind this front of a text, or NULL. */
+static const char *behind(const char *text, const char *front)
+{
+    size_t length = strlen(front);
+    return strncmp(text, front, length) == 0 ? text + length : NULL;
+}
+
 /* Whether the arguments of a template begin with a lock holder or thread of the C++ library, or an allocator of such:
- * then it makes one, as make_unique and emplace_back do, and none of the program's functions is a part of it. */
+ * then it makes one, as make_unique and emplace_back do, and none of the program's functions is a part of it. (LLVM's
+ * library has them in a namespace that was named before.) */
 static int is_of_holders(const char *arguments)
 {
     static const char *const holders[] = {"10lock_guardI",  "11unique_lockI", "11shared_lockI",
                                           "11scoped_lockI", "6thread",        "7jthread"};
+    static const char *const allocators[] = {"SaI", "NS_9allocatorI"}, *const spaces[] = {"St", "NS_"};
     if (*arguments++ != 'I')
         return 0;
-    if (strncmp(arguments, "Sa", 2) == 0 && arguments[2] == 'I')
-        arguments += 3;
-    if (strncmp(arguments, "St", 2) != 0)
-        return 0;
-    for (size_t i = 0; i < sizeof holders / sizeof *holders; i++)
-        if (strncmp(arguments + 2, holders[i], strlen(holders[i])) == 0)
-            return 1;
+    for (size_t library = 0; library < 2; library++) {
+        const char *inner = behind(arguments, allocators[library]);
+        const char *name = behind(inner ? inner : arguments, spaces[library]);
+        for (size_t i = 0; name && i < sizeof holders / sizeof *holders; i++)
+            if (behind(name, holders[i]))
+                return 1;
+    }
     return 0;
 }
 
@@ -166,7 +176,13 @@ static int is_wrapper_name(const char *symbol)
         return is_thread_wrapper(at);
     return contains(name, length, "mutex") || contains(name, length, "lock") || contains(name, length, "call_once") ||
            contains(name, length, "condition_variable") || (length == 7 && memcmp(name, "jthread", 7) == 0) ||
-           is_of_holders(at);
+           behind(name, "__libcpp_") || is_of_holders(at);
+}
+
+/* What threads of LLVM's C++ library begin with. The program's function may be a part of it. */
+static int is_routine_name(const char *symbol)
+{
+    return behind(symbol, "_ZNSt3__114__thread_proxy") != NULL;
 }
 
 /* --- Wrappers of a module --------------------------------------------------------------------------------- */
@@ -180,11 +196,14 @@ static size_t wrappers_among(const struct view *file, const ElfW(Shdr) * table, 
     size_t found = 0;
     for (size_t i = 0; i < table->sh_size / sizeof *symbols; i++) {
         const ElfW(Sym) *symbol = &symbols[i];
-        if (ELF64_ST_TYPE(symbol->st_info) != STT_FUNC || symbol->st_size == 0 || symbol->st_name >= strings->sh_size ||
-            !is_wrapper_name(names + symbol->st_name))
+        if (ELF64_ST_TYPE(symbol->st_info) != STT_FUNC || symbol->st_size == 0 || symbol->st_name >= strings->sh_size)
             continue;
+        int runs_object = is_routine_name(names + symbol->st_name);
+        if (!runs_object && !is_wrapper_name(names + symbol->st_name))
+            continue;
+        uintptr_t start = bias + symbol->st_value;
         if (ranges)
-            ranges[found] = (struct range){bias + symbol->st_value, bias + symbol->st_value + symbol->st_size};
+            ranges[found] = (struct range){start, start + symbol->st_size, runs_object};
         found++;
     }
     return found;
@@ -231,18 +250,23 @@ static void module_find_wrappers(struct module *module, const char *path)
     view_close(&file);
 }
 
+/* That of a module in which an address lies, or NULL. */
+static const struct range *range_of(const struct module *module, uintptr_t address)
+{
+    for (size_t i = 0; i < module->wrapper_count; i++)
+        if (address >= module->wrappers[i].start && address < module->wrappers[i].end)
+            return &module->wrappers[i];
+    return NULL;
+}
+
 static int is_wrapper(uintptr_t return_address)
 {
     uintptr_t address = return_address - 1;
     struct module *module = module_of(address);
-    if (!module)
-        return 0;
-    if (module->all_wrappers)
-        return 1;
-    for (size_t i = 0; i < module->wrapper_count; i++)
-        if (address >= module->wrappers[i].start && address < module->wrappers[i].end)
-            return 1;
-    return 0;
+    if (!module || module->all_wrappers)
+        return module != NULL;
+    const struct range *range = range_of(module, address);
+    return range && !range->runs_object;
 }
 
 /* --- Finding modules -------------------------------------------------------------------------------------- */
@@ -539,7 +563,8 @@ void modules_check(void)
 /* Also where that library is linked into the program: no other wrapper there is a start routine. */
 int runs_object(uint64_t routine)
 {
-    return module_known(routine) && is_wrapper(routine + 1);
+    struct module *module = module_known(routine);
+    return module && (module->all_wrappers || range_of(module, routine));
 }
 
 /* --- Walking ---------------------------------------------------------------------------------------------- */

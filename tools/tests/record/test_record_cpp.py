@@ -136,6 +136,19 @@ def test_wrappers_by_clang():
     compare(run.lines(), known(WRAPPERS.replace("@second_end", "@second"), "wrappers.cc"))
 
 
+def test_wrappers_of_the_library_of_llvm():
+    """It has other names for the same. Its shared and timed mutexes are of its own, and aren't seen."""
+    flags = ["-stdlib=libc++", "-std=c++17", "-O0"]
+    command = ["clang++", *flags, *C_FLAGS, "-o", "wrappers-llvm", os.path.join(SOURCES, "wrappers.cc")]
+    if not shutil.which("clang++") or subprocess.run(command, stderr=subprocess.PIPE).returncode != 0:
+        pytest.skip("no C++ library of LLVM here")
+    run = record("./wrappers-llvm")
+    assert run.status == 0, run.said
+    of_its_own = re.compile(r"\((timed|shared|.*libc\+\+.*|.*std::__1::.*)\)\|")
+    lines = known(WRAPPERS.replace("@second_end", "@second"), "wrappers.cc")
+    compare(*([line for line in some if not of_its_own.search(line)] for some in (run.lines(), lines)))
+
+
 def test_errors_of_the_loader_are_those_of_the_program():
     """What the recorder looks up, and doesn't find, is none of it."""
     build("g++", [*C_FLAGS, "-o", "opens", os.path.join(SOURCES, "opens.cc"), "-ldl"])

@@ -1,8 +1,12 @@
 """Names of threads by what they run, in whichever way it was given to them."""
 
+import os
 import re
+import shutil
+import subprocess
 
-from c_programs import Run
+import pytest
+from c_programs import C_FLAGS, SOURCES, Run
 
 ROUTINES = (
     "counts",
@@ -18,10 +22,24 @@ ROUTINES = (
 )
 
 
-def test_names_of_what_threads_run():
-    """Where it is no function that is known there is none: what lies behind the object that a thread runs isn't taken for it."""
-    run = Run(["./routines"])
+def names_of_threads(program):
+    run = Run([program])
     assert run.status == 0, run.said
     found = [re.fullmatch(r"main\|fork\(main\.(\d+):?(.*)\)\|.*", line) for line in run.lines()]
-    names = {int(match.group(1)): match.group(2) for match in found if match}
+    return {int(match.group(1)): match.group(2) for match in found if match}
+
+
+def test_names_of_what_threads_run():
+    """Where it is no function that is known there is none: what lies behind the object that a thread runs isn't taken for it."""
+    names = names_of_threads("./routines")
     assert names == dict(enumerate(ROUTINES, 1)), names
+
+
+def test_names_of_what_threads_of_llvm_run():
+    """Its C++ library has objects of other shapes, and of a std::function they tell none."""
+    flags = ["-stdlib=libc++", "-std=c++17", "-O0"]
+    command = ["clang++", *flags, *C_FLAGS, "-o", "routines-llvm", os.path.join(SOURCES, "routines.cc")]
+    if not shutil.which("clang++") or subprocess.run(command, stderr=subprocess.PIPE).returncode != 0:
+        pytest.skip("no C++ library of LLVM here")
+    names = names_of_threads("./routines-llvm")
+    assert names == dict(enumerate([*ROUTINES[:3], "", "", *ROUTINES[5:]], 1)), names
