@@ -10,6 +10,8 @@ from tool import find_tool
 TOOLS = os.path.dirname(os.path.dirname(os.path.realpath(__file__)))
 BESIDE = "tools/" if os.path.basename(TOOLS) == "tools" else ""
 
+NO_FILE = r"(?!)"  # of a runtime whose library has more than what isn't seen: who calls that has its name
+
 
 class Runtime:
     def __init__(self, name, file, mark, advice):
@@ -75,10 +77,17 @@ RUNTIMES = (
         re.compile(rb"Mutex corrupt: both reader and writer lock held"),
         "absl::Mutex doesn't pass the C library and isn't in this trace; no tool here records it",
     ),
+    Runtime(
+        "LLVM's C++ library",
+        NO_FILE,
+        re.compile(rb"_ZNSt3__1(?:11timed_mutex|18shared_timed_mutex|19__shared_mutex_base|21recursive_timed_mutex)\d"),
+        "std::shared_mutex, std::timed_mutex and their like don't pass the C library there and aren't in this trace as locks that "
+        "are held; no tool here records them",
+    ),
 )
 
 # These have no runtime in themselves, and are in every program.
-PLAIN_FILE = re.compile(r"(ld-linux[\w-]*|lib(c|m|dl|rt|pthread|gcc_s|stdc\+\+|z)|goodlock_record)\.so[\d.]*")
+PLAIN_FILE = re.compile(r"(ld-linux[\w-]*|lib(c|m|dl|rt|pthread|gcc_s|(?:std)?c\+\+|z)|goodlock_record)\.so[\d.]*")
 
 
 def runtimes_in(path):

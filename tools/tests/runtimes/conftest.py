@@ -20,9 +20,13 @@ GO = r'const char mark[] __attribute__((used)) = "\xff Go buildinf:";'
 RUST = 'const char mark[] __attribute__((used)) = "/rustc/%s/library/std/src/sync/mutex.rs";' % ("0a" * 20)
 QT = 'const char mark[] __attribute__((used)) = "\\0QMutex: destroying locked mutex";'
 ABSEIL = 'const char mark[] __attribute__((used)) = "%s: Mutex corrupt: both reader and writer lock held: %p";'
+LLVM = 'const char mark[] __attribute__((used)) = "_ZNSt3__119__shared_mutex_base11lock_sharedEv";'
+MADE_ALONE = 'const char mark[] __attribute__((used)) = "_ZNSt3__119__shared_mutex_baseC1Ev";'
 PYTHON = '__attribute__((visibility("default"))) int Py_BytesMain(void) { return 0; }'
 
-LIBRARIES = "libjvm libpython3.11 libgomp libomp libglib-2.0 libQt5Core libQt6Core libabsl_synchronization".split()
+LIBRARIES = (
+    "libjvm libpython3.11 libgomp libomp libglib-2.0 libQt5Core libQt6Core libabsl_synchronization libc++".split()
+)
 
 
 def compile_program(folder, output, mark, *options, name="main"):
@@ -49,8 +53,11 @@ def built(tmp_path_factory):
     compile_program(folder, "embeds-python", PYTHON, "-rdynamic")
     compile_program(folder, "has-qt", QT)
     compile_program(folder, "has-abseil", ABSEIL)
+    compile_program(folder, "has-llvm", LLVM)
+    compile_program(folder, "makes-alone", MADE_ALONE)
     for library in LIBRARIES:
-        compile_program(folder, library + ".so", "", "-shared", "-fPIC", name="runtime")
+        mark = LLVM if library == "libc++" else ""
+        compile_program(folder, library + ".so", mark, "-shared", "-fPIC", name="runtime")
         with open(folder / "uses.c", "w") as file:
             file.write("int runtime(void); int main(void) { return runtime(); }\n")
         done = subprocess.run(

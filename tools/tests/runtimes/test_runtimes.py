@@ -67,3 +67,14 @@ def test_abseil():
     for program in ("uses-libabsl_synchronization", "has-abseil"):
         said = said_of(program)
         assert "has Abseil: absl::Mutex doesn't pass the C library" in said, said
+
+
+def test_llvm():
+    """Who calls the functions of these mutexes has them: not each program whose C++ library it is."""
+    said = said_of("has-llvm")
+    assert (
+        "has LLVM's C++ library: std::shared_mutex, std::timed_mutex and their like don't pass the C library" in said
+    ), said
+    for program in ("uses-libc++", "makes-alone"):
+        said = said_of(program)
+        assert said.count("\n") == 1, said
