@@ -498,10 +498,26 @@ private:
     pthread_rwlock_t inner = PTHREAD_RWLOCK_INITIALIZER;
 };
 
-// A lock of std with its number.
-template <class M> class recorded {
+// A lock of std, and its native_handle() where it has one: the timed ones of LLVM's library have none.
+template <class...> struct types {
+    using none = void;
+};
+template <class M, class = void> class holder {
+protected:
+    M inner;
+};
+template <class M> class holder<M, typename types<typename M::native_handle_type>::none> {
 public:
     using native_handle_type = typename M::native_handle_type;
+    native_handle_type native_handle() { return inner.native_handle(); }
+
+protected:
+    M inner;
+};
+
+// A lock of std with its number.
+template <class M> class recorded : public holder<M> {
+public:
     recorded(GOODLOCK_HERE) : number(here) {}
     explicit recorded(const std::string &name) : number(name) {}
     recorded(const recorded &) = delete;
@@ -510,26 +526,24 @@ public:
     void lock(GOODLOCK_HERE) {
         number.record(GOODLOCK_ACQUIRE, here);
         try {
-            inner.lock();
+            this->inner.lock();
         } catch (...) {
             number.record(GOODLOCK_RELEASE, here);
             throw;
         }
     }
     bool try_lock(GOODLOCK_HERE) {
-        const bool is_taken = inner.try_lock();
+        const bool is_taken = this->inner.try_lock();
         if (is_taken)
             number.record(GOODLOCK_TRY_ACQUIRE, here);
         return is_taken;
     }
     void unlock(GOODLOCK_HERE) {
         number.record(GOODLOCK_RELEASE, here);
-        inner.unlock();
+        this->inner.unlock();
     }
-    native_handle_type native_handle() { return inner.native_handle(); }
 
 protected:
-    M inner;
     numbered number;
 };
 

@@ -530,10 +530,24 @@ class Tests:
                 else:  # optimised by one standard, as no line of goodlock.hpp depends on it
                     words = OPTIMISED if standard == "c++17" else AS_WRITTEN
                     self.forms(f"{compiler} {standard}", compiler, standard, *words)
+        self.forms_of_llvm()
         self.parts("g++")
         if shutil.which("clang++") is not None:
             self.busy("clang++", "clang++", "c++20", *OPTIMISED)
             self.parts("clang++")
+
+    def forms_of_llvm(self):
+        """With its C++ library, where that is installed."""
+        probe = ["clang++", "-stdlib=libc++", "-x", "c++", "-", "-o", self.folder / "probe_of_llvm"]
+        text = "#include <mutex>\nint main() { std::mutex().lock(); }\n"
+        if (
+            shutil.which("clang++") is None
+            or subprocess.run(probe, input=text, text=True, capture_output=True).returncode
+        ):
+            self.skip("goodlock.hpp with LLVM's C++ library", "it isn't installed")
+            return
+        for standard in ("c++11", "c++20"):
+            self.forms(f"LLVM's library {standard}", "clang++", standard, "-stdlib=libc++", *AS_WRITTEN)
 
     def parts(self, compiler):
         """goodlock.hpp in a program and in a library that it opens, also where both hide what they needn't show."""
