@@ -27,7 +27,7 @@ char *strcpy(char *restrict to, const char *restrict from)
     return memcpy(to, from, strlen(from) + 1);
 }
 
-int strncmp(const char *one, const char *other, size_t most)
+static int compared(const char *one, const char *other, size_t most)
 {
     for (; most > 0; one++, other++, most--) {
         if (*one != *other || !*one)
@@ -37,9 +37,14 @@ int strncmp(const char *one, const char *other, size_t most)
     return 0;
 }
 
+int strncmp(const char *one, const char *other, size_t most)
+{
+    return compared(one, other, most);
+}
+
 int strcmp(const char *one, const char *other)
 {
-    return strncmp(one, other, SIZE_MAX);
+    return compared(one, other, SIZE_MAX);
 }
 
 char *strchr(const char *text, int mark)

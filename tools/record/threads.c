@@ -531,7 +531,8 @@ static struct thread_record *join_enter(struct thread *thread, uint64_t number, 
         return call; \
     uint32_t site = CALLER_SITE(); \
     uint64_t number = joined_number((pthread_t)(handle)); \
-    struct thread_record *joining __attribute__((cleanup(join_leave))) = join_enter(thread, number, site, limited); \
+    struct thread_record *joining __attribute__((cleanup(join_leave), unused)) = \
+        join_enter(thread, number, site, limited); \
     int result = call; \
     join_write(thread, number, site, result == (success)); \
     return result
