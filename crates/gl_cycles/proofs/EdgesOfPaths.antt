@@ -1,6 +1,7 @@
 -- The edges of a path by its positions.
-use Rattle.std.proofs.Common.{◌≡◌, ◌≢◌, ℕ, suc, ◌+◌, ◌-◌, ◌<◌, Bool, true, false, ◌&&◌, leb, List, [], ◌∷◌, ◌++◌, length, take, drop, get_or, Some, refl, sym, ap, ◌∙◌, arith}
+use Rattle.std.proofs.Common.{◌≡◌, ◌≢◌, ℕ, suc, ◌+◌, ◌-◌, ◌<◌, Bool, true, false, ◌&&◌, eqb, ltb, leb, cond, Less, Equal, Greater, List, [], ◌∷◌, ◌++◌, length, take, drop, get_or, Some, refl, sym, ap, ◌∙◌, arith}
 use Rattle.std.specs.Prelude.{slice_get, All}
+use Rattle.std.specs.Ordering.{is_lt, nat_cmp}
 use Rattle.std.specs.List.{list_all, cons_option}
 use Rattle.std.proofs.lemmas.Option.{slice_get-get_or, same_Some}
 use Rattle.std.proofs.lemmas.Bool.{and_from, and_left, and_right}
@@ -129,3 +130,16 @@ module _ (table : List (Edge × Sample)) (path : List ℕ) (within : All (λ i. 
 
   pub some_picked : 0 < length path → 0 < length (picked (edges_of_table table) path)
   some_picked some = let l = length-picked (edges_of_table table) path (within_edges table path within) in omega arith
+
+-- the edge at a position of a table
+pub is_there : (table : List (Edge × Sample)) (i : ℕ) (d : Edge × Sample) (f : Edge) → i < length table → slice_get (edges_of_table table) i ≡ Some f → f ≡ (get_or table i d).0
+is_there table i d f within at = same_Some _ _ (sym at ∙ edge_at table i d within)
+
+by_tests : (b c : Bool) → is_lt (cond b Less (cond c Equal Greater)) ≡ b
+by_tests true c = refl
+by_tests false true = refl
+by_tests false false = refl
+
+-- a lesser thread, by the test that the code makes
+pub lesser_thread : (a b : ℕ) → is_lt (nat_cmp a b) ≡ ltb a b
+lesser_thread a b = by_tests (ltb a b) (eqb a b)

@@ -122,6 +122,21 @@ impl Searcher<'_> {
         self.goes_with_all(path, edge)
     }
 
+    // Whether the thread of the edge at a position is less than that of the path's first edge. Then it may not come next,
+    // and that is seen before anything else is looked at.
+    fn comes_before(&self, path: &[usize], next: usize) -> bool
+        requires some { 0 < length path.now }
+        requires within { All (λ i. i < length self.now.table.now) path.now }
+        requires there { next < length self.now.table.now }
+        ensures { result ≡ true → (f : Edge)
+            → slice_get (edges_of_table self.now.table.now) next ≡ Some f
+            → can_follow (is_before self.now.order.now) self.now.mode
+            (picked (edges_of_table self.now.table.now) path.now) f ≡ false }
+    {
+        let first = path[0];
+        self.table[next].0.thread < self.table[first].0.thread
+    }
+
     // Whether an edge of the path holds this lock. Then no other one that holds it goes with all of the path.
     fn is_held(&self, path: &[usize], lock: LockId) -> bool
         requires within { All (λ i. i < length self.now.table.now) path.now }
@@ -420,6 +435,9 @@ impl Searcher<'_> {
             (cycles_in found.old.items) (cycles_in found.new.items) result }
     {
         spend_step(self.is_bound, steps)?;
+        if self.comes_before(path, next) {
+            return Ok(());
+        }
         if self.leads_astray(path, next) {
             return Ok(());
         }

@@ -162,6 +162,17 @@ grow-returns t c =
       stopped = tt;
     }
 
+-- the edge has a lesser thread
+pub grow_by-returns-then-comes_before : goal.grow_by-returns-then-comes_before
+grow_by-returns-then-comes_before t c =
+    let s = limited c.args.self.now c.args.limit in
+    let here = element_at (edges_of_table s.table.now) c.args.next (omega (arith, c.requires.there, length-map s.table.now (λ pair. pair.0))) in
+    record {
+      added = grow_stray (is_before s.order.now) s.mode (edges_of_table s.table.now) (s.len - length (c.args.path.now ++ c.args.next ∷ [])) c.args.path.now s.cap _ c.args.next here.0
+          (omega (arith, c.requires.room, length-map c.args.found.now.items (λ cycle. cycle.items))) here.1 (c.comes_before.ensures c.if-comes_before.true here.0 here.1);
+      stopped = tt;
+    }
+
 -- the edge leads nowhere
 pub grow_by-returns-then-leads_astray : goal.grow_by-returns-then-leads_astray
 grow_by-returns-then-leads_astray t c =

@@ -1,30 +1,9 @@
-use Rattle.std.proofs.Common.{◌≡◌, ℕ, ◌-◌, ◌<◌, Bool, true, false, ◌&&◌, eqb, ltb, leb, List, length, get_or, Some, refl, sym, ap, ◌∙◌}
-use Rattle.std.specs.Prelude.{slice_get}
-use Rattle.std.proofs.Common.{cond, Less, Equal, Greater}
-use Rattle.std.specs.Ordering.{is_lt, nat_cmp}
+use Rattle.std.proofs.Common.{◌≡◌, ◌-◌, Bool, true, false, ◌&&◌, leb, length, get_or, refl, sym, ap, ◌∙◌}
 use Rattle.std.proofs.lemmas.Bool.{and_left, and_right, ltb-true, ltb-false, lt-leb, le-leb}
-use Rattle.std.proofs.lemmas.Option.{same_Some}
-use Rattle.gl_edges.specs.declared.edge.Edge.{Edge}
-use Rattle.gl_edges.specs.declared.edge.Sample.{Sample}
 use Rattle.gl_segments.specs.Clocks.{is_before}
-use Rattle.gl_filters.specs.Picked.{edges_of_table}
 use Rattle.gl_filters.specs.Test.{leads_to}
-use Rattle.gl_index.proofs.Tables.{edge_at}
-use Rattle.gl_cycles.proofs.EdgesOfPaths.{follow_by_table}
+use Rattle.gl_cycles.proofs.EdgesOfPaths.{follow_by_table, is_there, lesser_thread}
 use Rattle.gl_cycles.proofs.paths.Searcher.can_join.Goals as goal
-
--- the edge at a position
-is_there : (table : List (Edge × Sample)) (i : ℕ) (d : Edge × Sample) (f : Edge) → i < length table → slice_get (edges_of_table table) i ≡ Some f → f ≡ (get_or table i d).0
-is_there table i d f within at = same_Some _ _ (sym at ∙ edge_at table i d within)
-
-by_tests : (b c : Bool) → is_lt (cond b Less (cond c Equal Greater)) ≡ b
-by_tests true c = refl
-by_tests false true = refl
-by_tests false false = refl
-
--- a lesser thread, by the test that the code makes
-less : (a b : ℕ) → is_lt (nat_cmp a b) ≡ ltb a b
-less a b = by_tests (ltb a b) (eqb a b)
 
 both : (a b x : Bool) → a ≡ true → b ≡ true → (a && (x && b)) ≡ x
 both true true true p q = refl
@@ -45,7 +24,7 @@ pub returns-then-lt : goal.returns-then-lt
 returns-then-lt c = λ f at.
     let table = c.args.self.now.table.now in
     let is = is_there table c.args.next c.index-self-next.result f c.requires.there at in
-    let lesser = ltb-true _ _ (sym (less _ _) ∙ sym c.lt.ensures ∙ c.if-lt.true) in
+    let lesser = ltb-true _ _ (sym (lesser_thread _ _) ∙ sym c.lt.ensures ∙ c.if-lt.true) in
     sym (follow_by_table table c.args.path.now c.requires.within (is_before c.args.self.now.order.now) c.args.self.now.mode f c.index-self-first.result c.index-self-first.result c.requires.some
     ∙ and_right _ _ (and_right _ _ (ap (λ x. leb (get_or table (get_or c.args.path.now 0 0) c.index-self-first.result).0.thread x.thread) is ∙ lt-leb _ _ lesser)))
 
@@ -54,7 +33,7 @@ pub returns : goal.returns
 returns c = λ f at.
     let table = c.args.self.now.table.now in
     let is = is_there table c.args.next c.index-self-next.result f c.requires.there at in
-    let not_less = ltb-false _ _ (sym (less _ _) ∙ sym c.lt.ensures ∙ c.if-lt.false) in
+    let not_less = ltb-false _ _ (sym (lesser_thread _ _) ∙ sym c.lt.ensures ∙ c.if-lt.false) in
     let led_on = sym c.if-not-leads_on.ensures in
     rw is (c.goes_with_all.ensures ∙ sym (follow_by_table table c.args.path.now c.requires.within (is_before c.args.self.now.order.now) c.args.self.now.mode _ c.index-self-first.result c.index-self-last.result c.requires.some
     ∙ both _ _ _ led_on (le-leb _ _ not_less)))
