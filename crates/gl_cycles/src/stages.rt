@@ -40,16 +40,18 @@ use gl_pruning::{
 use std::alloc::Global;
 use std::thread::Threads;
 
-// The number of the last round, from 0, and that of one more for a search that is near its end.
-const LAST: usize = 1;
-
-const LAST_NEAR: usize = 2;
+// The number of the last round, from 0.
+const LAST: usize = 2;
 
 // A search is near its end that has found one of so many of the cycles that it looks for, and so many at least: a round has about
 // so many times the steps of the one before.
 const NEAR: usize = 8;
 
-// How many steps the round has at most that only a search has which is near its end.
+// How many steps the last round has at most: a search is often through with these where no more edges can be left out, and leaving
+// out with all the effort takes as long as several times as many.
+const STEPS_LAST: usize = 16_000_000;
+
+// The same for a search that is near its end.
 const STEPS_NEAR: usize = 64_000_000;
 
 // How often a search goes on at most before its last stage: twice for each part of the graph in which edges are left out by itself, and a few
@@ -99,15 +101,34 @@ fn steps_of(round: usize, edges: usize) -> usize {
     steps
 }
 
-// How many of these steps a round has in a turn where there may be no more than so many: the first one has all, and in later turns a part.
-fn steps_within(turn: usize, round: usize, steps: usize, most: usize) -> usize {
-    if round == 0 {
+// Where a search stands between its rounds.
+#[derive(Drop)]
+struct Standing {
+    // the root at which it stands
+    root: usize,
+    // the number of the round that is next, from 0
+    round: usize,
+    // whether it is near its end
+    is_near: bool,
+    // for each edge how often edges were left out in its part of the graph
+    times: Vec<usize>,
+}
+
+// How many of these steps the next round has in a turn where there may be no more than so many: the first one has all, and in later
+// turns a part.
+fn steps_within(turn: usize, standing: &Standing, steps: usize, most: usize) -> usize {
+    if standing.round == 0 {
         return if turn == 0 { steps } else { steps / LATER };
     }
-    if round > LAST {
-        return steps.min(most).min(STEPS_NEAR);
+    if standing.round < LAST {
+        return steps.min(most);
     }
-    steps.min(most)
+    let bound = if standing.is_near {
+        STEPS_NEAR
+    } else {
+        STEPS_LAST
+    };
+    steps.min(most).min(bound)
 }
 
 // How much effort a round makes for each reason, behind so many steps.
@@ -209,6 +230,62 @@ fn leave_out_between(
     Ok(())
 }
 
+// Goes on with a search in its next round, and leaves out edges where it stands then. Whether that was its last round.
+fn search_round(
+    alloc: Global,
+    sought: &Sought<'_>,
+    cap: usize,
+    most: usize,
+    turn: usize,
+    standing: &mut Standing,
+    kept: &mut Vec<bool>,
+    found: &mut Vec<Vec<usize>>,
+) -> Result<bool, Memory>
+    requires some { 0 < sought.now.len }
+    requires fits { sought.now.len ≤ LONGEST }
+    requires kept { KeepsSought sought.now kept.old.items }
+    requires found { HasFound sought.now cap standing.old.root (cycles_in found.old.items) }
+    ensures kept { OnOk result (KeepsSought sought.now kept.new.items) }
+    ensures found { OnOk result
+        (HasFound sought.now cap standing.new.root (cycles_in found.new.items)) }
+{
+    let steps = steps_of(standing.round, sought.table.len());
+    let within = steps_within(turn, &*standing, steps, most);
+    let limits = limits_in(alloc, sought, turn, kept)?;
+    let root = search_on(
+        alloc,
+        sought,
+        cap,
+        within,
+        kept,
+        limits,
+        standing.root,
+        found,
+    )?;
+    standing.root = root;
+    standing.is_near = is_near(found, cap, &standing.times, root);
+    let goes_on = standing.is_near || is_left_out(&standing.times, root);
+    if root >= sought.table.len() || most <= steps || (goes_on && standing.round >= LAST) {
+        return Ok(true);
+    }
+    if !standing.is_near {
+        leave_out_between(
+            alloc,
+            sought,
+            effort_of(steps),
+            root,
+            &mut standing.times,
+            kept,
+        )?;
+    }
+    standing.round = if goes_on {
+        standing.round.saturating_add(1)
+    } else {
+        0
+    };
+    Ok(false)
+}
+
 // Searches in rounds, each of no more than so many steps but the first. Where the search stands in a part of the graph in which none were left
 // out, edges are left out there, and it goes on with a part of the steps of the first round: another part may be one that a plain
 // search goes through at once, and then it is left as it is, or one in which it stands soon. Where they were left out there, they are left
@@ -230,33 +307,18 @@ fn search_in_rounds(
     ensures found { IfOk result
         (λ to. HasFound sought.now cap to (cycles_in found.new.items)) }
 {
-    let mut times: Vec<usize> = vec![in alloc; 0; sought.table.len()]?;
-    let mut root = 0;
-    let mut round: usize = 0;
+    let mut standing = Standing {
+        root: 0,
+        round: 0,
+        is_near: false,
+        times: vec![in alloc; 0; sought.table.len()]?,
+    };
     for turn in 0..TURNS {
-        let steps = steps_of(round, sought.table.len());
-        root = search_on(
-            alloc,
-            sought,
-            cap,
-            steps_within(turn, round, steps, most),
-            kept,
-            limits_in(alloc, sought, turn, kept)?,
-            root,
-            found,
-        )?;
-        let near = is_near(found, cap, &times, root);
-        let goes_on = near || is_left_out(&times, root);
-        let last = if near { LAST_NEAR } else { LAST };
-        if root >= sought.table.len() || most <= steps || (goes_on && round >= last) {
-            return Ok(root);
+        if search_round(alloc, sought, cap, most, turn, &mut standing, kept, found)? {
+            return Ok(standing.root);
         }
-        if !near {
-            leave_out_between(alloc, sought, effort_of(steps), root, &mut times, kept)?;
-        }
-        round = if goes_on { round.saturating_add(1) } else { 0 };
     }
-    Ok(root)
+    Ok(standing.root)
 }
 
 // How many edges are kept.

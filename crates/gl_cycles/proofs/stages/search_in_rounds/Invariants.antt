@@ -9,4 +9,4 @@ use Rattle.gl_cycles.proofs.stages.search_in_rounds.Given as goal
 abbrev pub invariant-loop-turn : goal.invariant-loop-turn
 invariant-loop-turn l =
     KeepsCycles (is_before l.sought.order.now) l.sought.mode l.sought.len (edges_of_table l.sought.table.now) l.kept.items
-    × HasFound l.sought l.cap l.root (map (λ cycle. cycle.items) l.found.items)
+    × HasFound l.sought l.cap l.standing.root (map (λ cycle. cycle.items) l.found.items)
