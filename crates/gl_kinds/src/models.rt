@@ -9,7 +9,7 @@ use gl_event::{LockId, LockMode, Memory};
 use std::alloc::Global;
 
 // What is looked at of an edge, and its position.
-#[derive(Clone, Copy, Debug, PartialEq, Eq, PartialOrd, Ord)]
+#[derive(Clone, Copy, PartialEq, Eq, PartialOrd, Ord)]
 struct Kind {
     held: LockId,
     held_mode: LockMode,
@@ -60,6 +60,23 @@ fn fingerprint(guards: &Guards) -> u64 {
     print
 }
 
+// The kinds of the edges that are kept, each behind those that are less.
+fn kinds_of(
+    alloc: Global,
+    table: &[(Edge, Sample)],
+    kept: &[bool],
+    grain: Grain,
+) -> Result<Vec<Kind>, Memory> {
+    let mut kinds = Vec::new(alloc);
+    for (position, ((edge, _), &is_kept)) in table.iter().zip(kept).enumerate() {
+        if is_kept {
+            kinds.push(Kind::of(edge, position, grain))?;
+        }
+    }
+    kinds.sort_unstable();
+    Ok(kinds)
+}
+
 /// For each edge that is kept the position of the first one that is alike. Sorts them. Where no two
 /// are alike the answer is empty.
 pub(crate) fn models_of(
@@ -71,13 +88,7 @@ pub(crate) fn models_of(
     if let Grain::BySegment = grain {
         return Ok(Vec::new(alloc));
     }
-    let mut kinds = Vec::new(alloc);
-    for (position, ((edge, _), &is_kept)) in table.iter().zip(kept).enumerate() {
-        if is_kept {
-            kinds.push(Kind::of(edge, position, grain))?;
-        }
-    }
-    kinds.sort_unstable();
+    let kinds = kinds_of(alloc, table, kept, grain)?;
     let mut model_of_each = vec![in alloc; 0; table.len()]?;
     let mut first = 0;
     for i in 0..kinds.len() {

@@ -7,6 +7,7 @@
 //! Which components these are is not proved; it is [checked](none_goes_back).
 ghost use Rattle.std.specs.Prelude.{◌≡◌, ◌+◌, ◌<◌, ◌≤◌, length, IfOk, IfSome, OnOk};
 ghost use Rattle.gl_filters.specs.Picked.{edges_of_table};
+ghost use Rattle.gl_sought.specs.Components.{AreComponents};
 ghost use Rattle.gl_sought.specs.OffCycles.{KeepsCycles};
 ghost use Rattle.gl_sought.specs.Sought.{KeepsSought, GoesOnSeeking};
 ghost use Rattle.gl_segments.specs.Clocks.{is_before};
@@ -79,6 +80,20 @@ pub(crate) fn shares_of(
     if !none_goes_back(&labels, &ends, kept) {
         return Ok(None);
     }
+    shares_by(sought, alloc, ends, labels, kept)
+}
+
+// Shares of the edges that are kept, by the components of their locks, if they lie in more than one.
+fn shares_by(
+    sought: &Sought<'_>,
+    alloc: Global,
+    ends: Vec<Ends>,
+    labels: Vec<usize>,
+    kept: &[bool],
+) -> Result<Option<Shares>, Memory>
+    requires { AreComponents sought.now labels.items ends.items kept.now }
+    ensures { IfOk result (λ found. IfSome found (λ shares. AreShares sought.now shares)) }
+{
     let sizes = sizes_of(alloc, &labels, &ends, kept)?;
     let count = count_some(&sizes).min(MOST);
     if count < 2 {

@@ -144,6 +144,27 @@ fn leave_out_each(
     Ok(has_changed)
 }
 
+// Leaves out edges of a part that have no way back, as long as there are any and the search for them may go on.
+fn leave_out_in_rounds(
+    sought: &Sought<'_>,
+    part: Part,
+    ways: &mut Ways,
+    ends: &[Ends],
+    kept: &mut Vec<bool>,
+) -> Result<(), Memory>
+    requires kept { KeepsSought sought.now kept.old.items }
+    requires ended { length ends.now ≡ length sought.now.table.now }
+    requires numbered { IsNumbered (edges_of_table sought.now.table.now) ends.now }
+    ensures { OnOk result (GoesOnSeeking sought.now kept.old.items kept.new.items) }
+{
+    for _ in 0..ROUNDS {
+        if !leave_out_each(sought, part, ways, ends, kept)? {
+            return Ok(());
+        }
+    }
+    Ok(())
+}
+
 /// Leaves out edges of a part that have no way back, as long as there are any and the search for
 /// them may go on. Err where memory was refused.
 pub fn leave_out_without_way(
@@ -160,10 +181,5 @@ pub fn leave_out_without_way(
     let budget = part.share_of(BUDGET);
     let mut ways = Ways::new(alloc, sought, numbers.count(), &ends, kept, budget)?;
     leave_out_far(sought, part, &mut ways, budget, &ends, kept)?;
-    for _ in 0..ROUNDS {
-        if !leave_out_each(sought, part, &mut ways, &ends, kept)? {
-            return Ok(());
-        }
-    }
-    Ok(())
+    leave_out_in_rounds(sought, part, &mut ways, &ends, kept)
 }

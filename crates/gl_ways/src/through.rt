@@ -160,6 +160,27 @@ fn leave_out_without_others(
     leave_out_one_way(sought, alloc, graph, owner, true, ends, looks, kept)
 }
 
+// Leaves out edges of each of these owners that have no way back along those of others, while edges may still be looked at.
+fn leave_out_of_owners(
+    sought: &Sought<'_>,
+    alloc: Global,
+    graph: &Graph,
+    owners: &[Owner],
+    ends: &[Ends],
+    looks: &mut usize,
+    kept: &mut Vec<bool>,
+) -> Result<(), Memory>
+    requires kept { KeepsSought sought.now kept.old.items }
+    requires ended { length ends.now ≡ length sought.now.table.now }
+    requires numbered { IsNumbered (edges_of_table sought.now.table.now) ends.now }
+    ensures { OnOk result (GoesOnSeeking sought.now kept.old.items kept.new.items) }
+{
+    for owner in owners {
+        leave_out_without_others(sought, alloc, graph, owner, ends, looks, kept)?;
+    }
+    Ok(())
+}
+
 /// Leaves out edges whose way back leads through others of their owner, for each owner who alone joins locks, while so many edges
 /// may still be looked at, of which `looks` is left with the rest. Err where memory was refused.
 pub fn leave_out_through(
@@ -175,8 +196,5 @@ pub fn leave_out_through(
     let ends = numbers.of_edges(alloc, sought.table)?;
     let graph = Graph::of(alloc, sought, &ends, numbers.count(), kept)?;
     let owners = graph.sole_owners(alloc)?;
-    for owner in owners.iter() {
-        leave_out_without_others(sought, alloc, &graph, owner, &ends, looks, kept)?;
-    }
-    Ok(())
+    leave_out_of_owners(sought, alloc, &graph, &owners, &ends, looks, kept)
 }
