@@ -14,7 +14,7 @@ use gl_shards::{pause, pause_without_yielding};
 use std::marker::Model;
 use std::sync::Wait;
 
-// A lane of so many notes or more is long: a collector that comes to it takes longer to empty it than to spin.
+// A lane of so many notes or more is long: once its recorder has slept, there is room for many notes, so that it seldom sleeps.
 const LONG: u32 = 128;
 
 /// Why an event wasn't recorded.
