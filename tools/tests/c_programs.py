@@ -1,15 +1,18 @@
 """What the tests that record C and C++ programs share: building and recording them, their marks, and what a recording leaves."""
 
 import os
+import shutil
 import signal
 import subprocess
 import time
 
 import known_traces
+import pytest
 from known_traces import LIMIT, NO_EVENTS, RECORD, REFERENCE, REFUSED, TESTS, TOOLS, marks_in  # noqa: F401
 
 SOURCES = os.path.join(TESTS, "record")
 C_FLAGS = ["-Wall", "-g", "-fno-optimize-sibling-calls", "-pthread"]
+LLVM_FLAGS = ["-stdlib=libc++", "-std=c++17", "-O0"]  # of a program of LLVM's C++ library
 # `locks.c:12` for each mark `@name` of each source, by name of the source's file and name of the mark.
 MARKS = {
     (name, mark): place
@@ -22,6 +25,13 @@ MARKS = {
 def build(compiler, arguments, folder="."):
     made = subprocess.run([compiler] + arguments, cwd=folder, stdout=subprocess.PIPE, stderr=subprocess.STDOUT)
     assert made.returncode == 0, "%s failed:\n%s" % (compiler, made.stdout.decode())
+
+
+def build_or_skip(needed, compiler, flags, source, program):
+    """Builds a program of a source. Where there isn't what that needs the test is skipped."""
+    command = [compiler, *flags, *C_FLAGS, "-o", program, os.path.join(SOURCES, source)]
+    if not shutil.which(compiler) or subprocess.run(command, stderr=subprocess.PIPE).returncode != 0:
+        pytest.skip("no %s here" % needed)
 
 
 def put(programs, folder):

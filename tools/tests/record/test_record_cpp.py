@@ -6,7 +6,7 @@ import shutil
 import subprocess
 
 import pytest
-from c_programs import C_FLAGS, SOURCES, build
+from c_programs import C_FLAGS, LLVM_FLAGS, SOURCES, build, build_or_skip
 from c_traces import expect, known, record
 from known_traces import RECORD, compare, cycles_in, killed, read_lines
 
@@ -138,10 +138,7 @@ def test_wrappers_by_clang():
 
 def test_wrappers_of_the_library_of_llvm():
     """It has other names for the same. Its shared and timed mutexes are of its own, and aren't seen."""
-    flags = ["-stdlib=libc++", "-std=c++17", "-O0"]
-    command = ["clang++", *flags, *C_FLAGS, "-o", "wrappers-llvm", os.path.join(SOURCES, "wrappers.cc")]
-    if not shutil.which("clang++") or subprocess.run(command, stderr=subprocess.PIPE).returncode != 0:
-        pytest.skip("no C++ library of LLVM here")
+    build_or_skip("C++ library of LLVM", "clang++", LLVM_FLAGS, "wrappers.cc", "wrappers-llvm")
     run = record("./wrappers-llvm")
     assert run.status == 0, run.said
     of_its_own = re.compile(r"\((timed|shared|.*libc\+\+.*|.*std::__1::.*)\)\|")

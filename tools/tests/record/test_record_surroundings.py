@@ -8,7 +8,7 @@ import signal
 import subprocess
 
 import pytest
-from c_programs import C_FLAGS, SOURCES
+from c_programs import build_or_skip
 from c_traces import known, record
 from known_traces import LIMIT, RECORD, REFUSED, TOOLS, compare, read_lines, wait_for
 
@@ -79,10 +79,7 @@ def test_checkout_whose_path_has_a_space():
 
 
 def test_program_with_address_sanitizer():
-    source = os.path.join(SOURCES, "locks.c")
-    command = ["gcc", "-fsanitize=address"] + C_FLAGS + ["-o", "locks-asan", source]
-    if subprocess.run(command, stderr=subprocess.PIPE).returncode != 0:
-        pytest.skip("no AddressSanitizer here")
+    build_or_skip("AddressSanitizer", "gcc", ["-fsanitize=address"], "locks.c", "locks-asan")
     run = record("./locks-asan", "mutexes")
     assert run.status == 0 and "ERROR" not in run.said, run.said
     assert len(run.lines()) == 8, str(run.lines())
@@ -90,35 +87,31 @@ def test_program_with_address_sanitizer():
 
 def test_fault_that_address_sanitizer_tells_of():
     """It is the program's, and no question of the recorder's."""
-    command = ["gcc", "-fsanitize=address", *C_FLAGS, "-o", "freed", os.path.join(SOURCES, "freed.c")]
-    if subprocess.run(command, stderr=subprocess.PIPE).returncode != 0:
-        pytest.skip("no AddressSanitizer here")
+    build_or_skip("AddressSanitizer", "gcc", ["-fsanitize=address"], "freed.c", "freed")
     run = record("./freed")
     assert "attempting double-free on" in run.said and "malloc_usable_size" not in run.said, run.said
     assert run.status == 1 and len(run.lines()) == 2, run.said
 
 
+def record_with_thread_sanitizer(compiler, flags, source, *words):
+    """The recording of a program that this compiler gave its ThreadSanitizer, called with these words."""
+    build_or_skip("ThreadSanitizer of %s" % compiler, compiler, ["-fsanitize=thread", *flags], source, "sanitized")
+    if subprocess.run(["./sanitized", *words], stderr=subprocess.PIPE).returncode != 0:
+        pytest.skip("ThreadSanitizer doesn't run here")
+    return record("./sanitized", *words)
+
+
 def test_program_with_thread_sanitizer_of_gcc():
     """It is a library behind the recorder. Where waits for conditions went past it, it would take a mutex for locked all the while,
     and say so."""
-    command = ["gcc", "-fsanitize=thread", *C_FLAGS, "-o", "locks-tsan", os.path.join(SOURCES, "locks.c")]
-    if subprocess.run(command, stderr=subprocess.PIPE).returncode != 0:
-        pytest.skip("no ThreadSanitizer of gcc here")
-    if subprocess.run(["./locks-tsan", "conditions"], stderr=subprocess.PIPE).returncode != 0:
-        pytest.skip("ThreadSanitizer doesn't run here")
-    run = record("./locks-tsan", "conditions")
+    run = record_with_thread_sanitizer("gcc", [], "locks.c", "conditions")
     assert run.status == 0 and "ThreadSanitizer" not in run.said, run.said
     assert len(run.lines()) == 12, str(run.lines())
 
 
 def test_program_with_thread_sanitizer_of_clang():
     """It puts functions of its own before those of the C library into the program: a call's place is that of who called them."""
-    command = ["clang", "-fsanitize=thread", *C_FLAGS, "-o", "locks-tsan", os.path.join(SOURCES, "locks.c")]
-    if not shutil.which("clang") or subprocess.run(command, stderr=subprocess.PIPE).returncode != 0:
-        pytest.skip("no ThreadSanitizer of Clang here")
-    if subprocess.run(["./locks-tsan", "table"], stderr=subprocess.PIPE).returncode != 0:
-        pytest.skip("ThreadSanitizer doesn't run here")
-    run = record("./locks-tsan", "table")
+    run = record_with_thread_sanitizer("clang", [], "locks.c", "table")
     assert run.status == 0, run.said
     compare(run.lines(), known("main|acq(many+0x78)|@table\nmain|rel(many+0x78)|@table_end"))
 
@@ -126,12 +119,7 @@ def test_program_with_thread_sanitizer_of_clang():
 @pytest.mark.skipif(platform.machine() != "x86_64", reason="the C library has one version of the waits here")
 def test_waits_with_thread_sanitizer_of_clang():
     """It asks for the C library's waits by their version, and has some functions of its own around them."""
-    command = ["clang", "-fsanitize=thread", *C_FLAGS, "-o", "locks-tsan", os.path.join(SOURCES, "locks.c")]
-    if not shutil.which("clang") or subprocess.run(command, stderr=subprocess.PIPE).returncode != 0:
-        pytest.skip("no ThreadSanitizer of Clang here")
-    if subprocess.run(["./locks-tsan", "conditions"], stderr=subprocess.PIPE).returncode != 0:
-        pytest.skip("ThreadSanitizer doesn't run here")
-    run = record("./locks-tsan", "conditions")
+    run = record_with_thread_sanitizer("clang", [], "locks.c", "conditions")
     assert run.status == 0 and "ThreadSanitizer" not in run.said, run.said
     compare(
         [line for line in run.lines() if "(a)" in line and line.startswith("main|")],
@@ -154,13 +142,7 @@ def test_thread_sanitizer_tells_nothing_of_the_recorder(compiler):
     """What the recorder keeps of a thread that ended is another one's then. That is no race, nor is it one that two threads which load
     libraries come upon the same ones, or that each of them is the first to need another file: the program has none, and ends as without
     the recorder."""
-    words = ["./plugin-one.so", "./plugin-two.so"]
-    command = [compiler, "-fsanitize=thread", *C_FLAGS, "-O1", "-o", "comings", os.path.join(SOURCES, "comings.c")]
-    if not shutil.which(compiler) or subprocess.run(command, stderr=subprocess.PIPE).returncode != 0:
-        pytest.skip(f"no ThreadSanitizer of {compiler} here")
-    if subprocess.run(["./comings", *words], stderr=subprocess.PIPE).returncode != 0:
-        pytest.skip("ThreadSanitizer doesn't run here")
-    run = record("./comings", *words)
+    run = record_with_thread_sanitizer(compiler, ["-O1"], "comings.c", "./plugin-one.so", "./plugin-two.so")
     assert run.status == 0 and "ThreadSanitizer" not in run.said, run.said
     assert len(run.lines()) > 3 * 4 * 2 * 40, run.said
 

@@ -1,12 +1,8 @@
 """Names of threads by what they run, in whichever way it was given to them."""
 
-import os
 import re
-import shutil
-import subprocess
 
-import pytest
-from c_programs import C_FLAGS, SOURCES, Run
+from c_programs import LLVM_FLAGS, Run, build_or_skip
 
 ROUTINES = (
     "counts",
@@ -37,9 +33,6 @@ def test_names_of_what_threads_run():
 
 def test_names_of_what_threads_of_llvm_run():
     """Its C++ library has objects of other shapes, and of a std::function they tell none."""
-    flags = ["-stdlib=libc++", "-std=c++17", "-O0"]
-    command = ["clang++", *flags, *C_FLAGS, "-o", "routines-llvm", os.path.join(SOURCES, "routines.cc")]
-    if not shutil.which("clang++") or subprocess.run(command, stderr=subprocess.PIPE).returncode != 0:
-        pytest.skip("no C++ library of LLVM here")
+    build_or_skip("C++ library of LLVM", "clang++", LLVM_FLAGS, "routines.cc", "routines-llvm")
     names = names_of_threads("./routines-llvm")
     assert names == dict(enumerate([*ROUTINES[:3], "", "", *ROUTINES[5:]], 1)), names
