@@ -145,6 +145,8 @@ class RecordedLock:
             raise
         return taken[0]
 
+    # Both are written out: an exception of a handler may come where one calls the other, and nothing would be released then.
+
     @without_look
     def release(self):
         try:
