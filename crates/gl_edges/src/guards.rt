@@ -28,9 +28,9 @@ pub struct Guard {
 /// the ascending list of them.
 #[derive(Drop, Debug)]
 pub struct Guards {
-    locks: SmallVec<Guard, INLINE>,
-    // what most questions about two sets are answered by
+    // what most questions about two sets are answered by: in front, so that they lie near the edge's other fields
     marks: Marks,
+    locks: SmallVec<Guard, INLINE>,
 }
 
 impl Model for Guards {
