@@ -3,9 +3,10 @@ ghost use Rattle.gl_event.specs.declared.events.Event.{Event};
 ghost use Rattle.gl_segments.specs.Clocks.{OrdersBy};
 ghost use Rattle.gl_segments.specs.Orders.{IsFaultOf};
 ghost use Rattle.gl_segments.specs.Segments.{IsConsistent};
-ghost use Rattle.gl_segments.specs.bodies.Tables.{IsSound, ShowsSteps};
+ghost use Rattle.gl_segments.specs.bodies.Search.{Counts, Explores};
+ghost use Rattle.gl_segments.specs.bodies.Tables.{IsSound, Precedes, ShowsSteps};
 ghost use Rattle.gl_segments.specs.bodies.Rows.{AreClocksOf, IsThreadFault};
-ghost use Rattle.std.specs.Prelude.{◌≡◌, ◌<◌, List, length, IfOk, OnOk, IfErr};
+ghost use Rattle.std.specs.Prelude.{◌≡◌, ◌<◌, ℕ, List, length, IfOk, OnOk, IfErr};
 
 use crate::faults::OrderFault;
 use crate::halts::Halt;
@@ -141,10 +142,26 @@ fn history(alloc: Global, steps: &Steps, thread: ThreadId) -> Result<History, Or
         let at = Segment { thread, index };
         search.find_before(steps, at)?;
         if index < search.clock.ahead(thread) {
-            let ring = search.ring(alloc)?;
-            return Err(OrderFault::Inconsistent { at, ring });
+            return Err(fault_at(alloc, steps, &search, at));
         }
         growing.push(alloc, &search.clock, &search.found)?;
     }
     Ok(growing.finish(alloc)?)
+}
+
+// The fault that the segment is before itself, with a ring that a search for what is before it found.
+fn fault_at(alloc: Global, steps: &Steps, search: &Search, at: Segment) -> OrderFault
+    requires target { search.now.target ≡ at }
+    requires explored { Explores steps.now at search.now.clock search.now.found.items
+        (length search.now.found.items) }
+    requires counted { Counts search.now.clock at }
+    ensures { ((i : ℕ) → i < at.index
+        → ¬ Precedes steps.now (record { thread = at.thread; index = i })
+        (record { thread = at.thread; index = i }))
+        → IsThreadFault steps.now at.thread result }
+{
+    match search.ring(alloc) {
+        Ok(ring) => OrderFault::Inconsistent { at, ring },
+        Err(_) => OrderFault::Memory,
+    }
 }

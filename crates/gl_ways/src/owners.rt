@@ -48,6 +48,53 @@ struct Pair {
     owners: Vec<Owner>,
 }
 
+// The pairs of the links so far, by where these lead from and to, but for the last one, which may have more links: who alone
+// has all that it has so far.
+#[derive(Drop)]
+struct Pairing {
+    pairs: Vec<Pair>,
+    owners: Vec<Owner>,
+    last: Option<Link>,
+}
+
+impl Pairing {
+    // No links.
+    fn new(alloc: Global) -> Pairing {
+        Pairing {
+            pairs: Vec::new(alloc),
+            owners: Vec::new(alloc),
+            last: None,
+        }
+    }
+
+    // Takes the next link.
+    fn take(&mut self, alloc: Global, sought: &Sought<'_>, link: &Link) -> Result<(), Memory> {
+        if !is_next(&self.last, link) {
+            self.end_pair(alloc)?;
+            self.owners = owners_of(alloc, sought, link)?;
+        } else if !self.owners.is_empty() {
+            // of most pairs with many edges nobody is left by then
+            self.owners = owners_among(alloc, sought, &self.owners, link)?;
+        }
+        self.last = Some(*link);
+        Ok(())
+    }
+
+    // Adds the pair of the last link, if there is one.
+    fn end_pair(&mut self, alloc: Global) -> Result<(), Memory> {
+        let owners = std::mem::replace(&mut self.owners, Vec::new(alloc));
+        add_pair(&mut self.pairs, &self.last, owners)
+    }
+
+    // All pairs.
+    fn finish(self, alloc: Global) -> Result<Vec<Pair>, Memory> {
+        let mut pairing = self;
+        pairing.end_pair(alloc)?;
+        let Pairing { pairs, .. } = pairing;
+        Ok(pairs)
+    }
+}
+
 /// The lock-order graph of the edges that are kept.
 #[derive(Drop)]
 pub(crate) struct Graph {
@@ -65,23 +112,14 @@ impl Graph {
         locks: usize,
         kept: &[bool],
     ) -> Result<Graph, Memory> {
-        let mut pairs = Vec::new(alloc);
-        let mut owners: Vec<Owner> = Vec::new(alloc);
-        let mut before: Option<Link> = None;
+        let mut pairing = Pairing::new(alloc);
         for link in &links_of(alloc, ends, kept)? {
-            if is_next(&before, link) {
-                // of most pairs with many edges nobody is left by then
-                if !owners.is_empty() {
-                    owners = owners_among(alloc, sought, &owners, link)?;
-                }
-            } else {
-                add_pair(&mut pairs, &before, owners)?;
-                owners = owners_of(alloc, sought, link)?;
-            }
-            before = Some(*link);
+            pairing.take(alloc, sought, link)?;
         }
-        add_pair(&mut pairs, &before, owners)?;
-        Ok(Graph { pairs, locks })
+        Ok(Graph {
+            pairs: pairing.finish(alloc)?,
+            locks,
+        })
     }
 
     /// How many pairs of locks there are that an edge leads from and to.
@@ -187,17 +225,22 @@ fn is_next(before: &Option<Link>, link: &Link) -> bool {
 // The owners of a link's edge: its thread, and some of the locks that it is made under.
 fn owners_of(alloc: Global, sought: &Sought<'_>, link: &Link) -> Result<Vec<Owner>, Memory> {
     let mut owners = Vec::new(alloc);
-    let Some((edge, _)) = sought.table.get(link.position) else {
-        return Ok(owners);
-    };
+    if let Some((edge, _)) = sought.table.get(link.position) {
+        add_owners(&mut owners, sought.mode, edge)?;
+    }
+    Ok(owners)
+}
+
+// Adds the owners of an edge to none.
+fn add_owners(owners: &mut Vec<Owner>, mode: Mode, edge: &Edge) -> Result<(), Memory> {
     owners.push(Owner::OfThread(edge.thread))?;
     for guard in edge.guards.as_slice() {
         let owner = Owner::OfLock(guard.lock);
-        if owners.len() < MOST && owner.has(sought.mode, edge) {
+        if owners.len() < MOST && owner.has(mode, edge) {
             owners.push(owner)?;
         }
     }
-    Ok(owners)
+    Ok(())
 }
 
 // Those of these owners that have the link's edge, too.
@@ -208,15 +251,25 @@ fn owners_among(
     link: &Link,
 ) -> Result<Vec<Owner>, Memory> {
     let mut among = Vec::new(alloc);
-    let Some((edge, _)) = sought.table.get(link.position) else {
-        return Ok(among);
-    };
+    if let Some((edge, _)) = sought.table.get(link.position) {
+        add_those_of(&mut among, sought.mode, owners, edge)?;
+    }
+    Ok(among)
+}
+
+// Adds those of the owners that have the edge.
+fn add_those_of(
+    among: &mut Vec<Owner>,
+    mode: Mode,
+    owners: &[Owner],
+    edge: &Edge,
+) -> Result<(), Memory> {
     for owner in owners {
-        if owner.has(sought.mode, edge) {
+        if owner.has(mode, edge) {
             among.push(*owner)?;
         }
     }
-    Ok(among)
+    Ok(())
 }
 
 // Adds all of these.

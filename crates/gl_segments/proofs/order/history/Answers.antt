@@ -1,11 +1,10 @@
 use Rattle.std.proofs.Common.{◌≡◌, ℕ, ◌+◌, ◌<◌, ◌++◌, ◌∷◌, [], List, length, refl, sym, ap, subst, ◌∙◌, arith}
 use Rattle.std.specs.Prelude.{slice_index}
 use Rattle.gl_event.specs.declared.events.Segment.{Segment}
-use Rattle.gl_segments.specs.Segments.{Leads}
-use Rattle.gl_segments.specs.bodies.Tables.{steps_of_thread, Has, LeadsTo}
+use Rattle.gl_segments.specs.bodies.Tables.{steps_of_thread, Has}
 use Rattle.gl_segments.specs.bodies.Search.{Counts, IsClockOf}
 use Rattle.gl_segments.specs.bodies.Rows.{AreClocksBelow}
-use Rattle.gl_segments.proofs.Clocking.{explored_clock, may_start_next, chain_of_links, clocks_more, own_count}
+use Rattle.gl_segments.proofs.Clocking.{explored_clock, may_start_next, clocks_more, own_count}
 use Rattle.gl_segments.proofs.Searching.{found_among}
 use Rattle.gl_segments.proofs.Starting.{may_start_zeros}
 use Rattle.gl_segments.proofs.order.history.Goals as goal
@@ -59,20 +58,7 @@ loop-index-preserved c =
     }
 
 pub returns-then-index-ahead-clause-fault : goal.returns-then-index-ahead-clause-fault
-returns-then-index-ahead-clause-fault c =
-    let steps = c.args.steps.now in
-    let at : Segment = record { thread = c.args.thread; index = c.loop-index.index } in
-    let explored = c.in_ok-find_before.ensures.explored in
-    let r = c.in_ok-ring.ensures in
-    let target : r.1.segment ≡ at = r.4 ∙ c.in_ok-find_before.ensures.target in
-    let chain = chain_of_links steps at _ explored.links c.in_ok-ring.ring.items r.0 r.1 r.2 r.3 r.5 in
-    record {
-      same_thread = refl;
-      via = chain.0;
-      begins = chain.1 ∙ ap (λ s. s ∷ chain.0) target;
-      rings = subst (λ x. Leads (LeadsTo steps) x chain.0 at) target chain.2;
-      first = c.loop-index.invariant.clocks.2.apart;
-    }
+returns-then-index-ahead-clause-fault c = c.fault_at.ensures c.loop-index.invariant.clocks.2.apart
 
 pub finish-requires : goal.finish-requires
 finish-requires c = record { rising = c.loop-index.invariant.clocks.1.tells.rising }

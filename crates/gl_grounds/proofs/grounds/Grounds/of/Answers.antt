@@ -1,47 +1,69 @@
-use Rattle.std.proofs.Common.{rules, subst}
+use Rattle.std.proofs.Common.{length, sym, ap, subst, ◌∙◌}
 use Rattle.std.proofs.lemmas.List.{length-map}
+use Rattle.std.proofs.lemmas.Result.{err_from_is_err_and}
 use Rattle.gl_grounds.specs.Classes.{class_of, classes_of}
 use Rattle.gl_grounds.specs.Models.{IsNextClass}
-use Rattle.std.proofs.lemmas.Result.{err_from_is_err_and}
 use Rattle.gl_grounds.proofs.grounds.Grounds.of.Goals as goal
 
-pub returns-in_err-classes : goal.returns-in_err-classes
-returns-in_err-classes c =
+pub returns : goal.returns
+returns c = λ before mode len keeps.
+    let table = c.args.edges.now in
+    let classed = c.in_ok-classed.ensures in
+    let models = classed.models in
+    let next = c.in_ok-relations.ensures.next in
+    let runners = c.in_ok-relations.ensures.runners in
+    let passages = c.in_ok-relations.ensures.passages in
+    let holders = c.in_ok-look_ups.ensures.holders in
+    let closers = c.in_ok-look_ups.ensures.closers in
+    let begins = c.in_ok-look_ups.ensures.begins mode len in
+    rw c.with.ensures (record {
+      same_classes = classed.classes;
+      keeps = keeps;
+      long = classed.long;
+      have = rw (c.deref.ensures.value, classed.classes) at models;
+      follow = subst (λ n. IsNextClass n (classes_of table) c.in_ok-classed.classed.models.items c.in_ok-relations.relations.next.items)
+          (length-map table (class_of table))
+          (rw (c.deref-3.ensures.value, c.deref-4.ensures.value, classed.classes) at next);
+      run = rw (c.entries-table.ensures.pairs, c.deref-2.ensures.value, c.deref-3.ensures.value, classed.classes) at runners;
+      pass = rw (c.entries-table.ensures.pairs, c.deref-3.ensures.value, c.deref-4.ensures.value, classed.classes) at passages;
+      held_by = rw (c.entries-table.ensures.pairs, c.deref-6.ensures.value) at holders;
+      closed_by = rw (c.entries-table.ensures.pairs, c.deref-6.ensures.value) at closers;
+      begin = rw (c.entries-table.ensures.pairs, c.deref-5.ensures.value, c.deref-6.ensures.value, classed.classes) at begins;
+    })
+
+pub of-requires : goal.of-requires
+of-requires c = ap length c.deref.ensures.value ∙ c.requires
+
+pub of-requires-2-clause-kept : goal.of-requires-2-clause-kept
+of-requires-2-clause-kept c = ap length c.deref-2.ensures.value ∙ c.requires ∙ sym (ap length c.entries-table.ensures.pairs)
+
+pub of-requires-2-clause-classes : goal.of-requires-2-clause-classes
+of-requires-2-clause-classes c =
+    let table = c.args.edges.now in
+    ap length (c.deref-3.ensures.value ∙ c.in_ok-classed.ensures.classes) ∙ length-map table (class_of table) ∙ sym (ap length c.entries-table.ensures.pairs)
+
+pub of-requires-2-clause-models : goal.of-requires-2-clause-models
+of-requires-2-clause-models c = ap length c.deref-4.ensures.value ∙ c.in_ok-classed.ensures.long ∙ sym (ap length c.entries-table.ensures.pairs)
+
+pub of-requires-3-clause-classes : goal.of-requires-3-clause-classes
+of-requires-3-clause-classes c =
+    let table = c.args.edges.now in
+    ap length (c.deref-5.ensures.value ∙ c.in_ok-classed.ensures.classes) ∙ length-map table (class_of table) ∙ sym (ap length c.entries-table.ensures.pairs)
+
+pub of-requires-3-clause-models : goal.of-requires-3-clause-models
+of-requires-3-clause-models c = ap length c.deref-6.ensures.value ∙ c.in_ok-classed.ensures.long ∙ sym (ap length c.entries-table.ensures.pairs)
+
+pub returns-in_err-classed : goal.returns-in_err-classed
+returns-in_err-classed c =
     let p = err_from_is_err_and c.from_residual.result c.from_residual.ensures.1 in
     rw p.1 tt
 
-pub returns-in_err-models : goal.returns-in_err-models
-returns-in_err-models c =
-    let p = err_from_is_err_and c.from_residual-in_err-models.result c.from_residual-in_err-models.ensures.1 in
+pub returns-in_err-relations : goal.returns-in_err-relations
+returns-in_err-relations c =
+    let p = err_from_is_err_and c.from_residual-in_err-relations.result c.from_residual-in_err-relations.ensures.1 in
     rw p.1 tt
 
-pub returns-in_err-next : goal.returns-in_err-next
-returns-in_err-next c =
-    let p = err_from_is_err_and c.from_residual-in_err-next.result c.from_residual-in_err-next.ensures.1 in
+pub returns-in_err-look_ups : goal.returns-in_err-look_ups
+returns-in_err-look_ups c =
+    let p = err_from_is_err_and c.from_residual-in_err-look_ups.result c.from_residual-in_err-look_ups.ensures.1 in
     rw p.1 tt
-
-pub returns-in_err-runners : goal.returns-in_err-runners
-returns-in_err-runners c =
-    let p = err_from_is_err_and c.from_residual-in_err-runners.result c.from_residual-in_err-runners.ensures.1 in
-    rw p.1 tt
-
-pub returns-in_err-passages : goal.returns-in_err-passages
-returns-in_err-passages c =
-    let p = err_from_is_err_and c.from_residual-in_err-passages.result c.from_residual-in_err-passages.ensures.1 in
-    rw p.1 tt
-
-pub returns : goal.returns
-returns c = λ before mode len keeps. record {
-  same_classes = search rules;
-  keeps = keeps;
-  long = search rules;
-  have = search rules;
-  follow = subst (λ n. IsNextClass n (classes_of c.args.edges.now) c.in_ok-models.models.items c.in_ok-next.next.items) (length-map c.args.edges.now (class_of c.args.edges.now)) (search rules);
-  run = search rules;
-  pass = search rules;
-  held_by = search rules;
-  closed_by = search rules;
-  begin =
-      let begins = c.in_ok-begins.ensures mode len in
-      rw (c.entries-6.ensures.pairs, c.deref-11.ensures.value, c.deref-12.ensures.value, c.in_ok-classes.ensures.classes, c.entries.ensures.pairs) at begins;
-}
