@@ -1,7 +1,7 @@
-//! Worked runs of gl_commands, and worked command lines of gl_options, by their public calls.
+//! Worked runs of gl_commands, by its public calls.
 //!
-//! They stand in a crate of their own, since a crate is proved once more with its tests, and in one, since what stands
-//! behind a command is read once so. What they share is a text that can't be read to its end, [`Cut`](cut::Cut).
+//! They stand in a crate of their own, since a crate is proved once more with its tests. What they share is a text that can't be
+//! read to its end, [`Cut`](cut::Cut).
 #![tactic(auto)]
 
 #[cfg(test)]

@@ -1,4 +1,4 @@
-//! What words ask for, how commands end over whole traces, and what they write.
+//! How commands end over whole traces, and what they write.
 mod asks;
 mod checks;
 mod counts;
@@ -11,7 +11,6 @@ mod streams;
 mod tables;
 mod texts;
 mod traces;
-mod words;
 
 const OPPOSITE_ORDER: &[u8] =
     b"T0|acq(a)|1\nT0|acq(b)|2\nT0|rel(b)|3\nT0|rel(a)|4\nT1|acq(b)|5\nT1|acq(a)|6\n";

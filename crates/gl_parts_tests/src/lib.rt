@@ -1,7 +1,7 @@
-//! Worked examples of gl_event, gl_io, gl_lane, gl_recorder, gl_intake, gl_edges, gl_segments, gl_shards and
-//! gl_filters, by their public calls.
+//! Worked examples of gl_event, gl_io, gl_lane, gl_recorder, gl_intake, gl_edges, gl_segments, gl_shards,
+//! gl_filters and gl_options, by their public calls.
 //!
-//! They stand in a crate of their own, since a crate is proved once more with its tests. What stands outside
+//! They stand in a crate of their own, since a crate is proved once more with its tests, and before the last crates are proved. What stands outside
 //! of the tests is intakes whose number of threads is known, [`collecting`], a writer, [`Narrow`](narrow::Narrow),
 //! and a thread that is followed event by event, [`stepping`].
 #![tactic(auto)]

@@ -13,6 +13,7 @@ mod recorders;
 mod segments;
 mod shards;
 mod wanted;
+mod words;
 
 // So it is where the case of this name is asked for the time with this number.
 fn expect(rt: &impl Abort, is_so: bool, name: &str, at: usize) {
