@@ -109,19 +109,26 @@ fn pops(collector: &mut OwnLaneOut, count: u32) -> bool {
     true
 }
 
-// More than are taken off a ring together.
+// More than are taken off a ring together, and then there is room for more.
+fn come_out_whole(recorder: &mut Recorder, collector: &mut OwnLaneOut) -> bool {
+    pushes(recorder, 20)
+        && recorder.push(event_at(20)) == Some(false)
+        && pops(collector, 20)
+        && recorder.push(event_at(20)) == Some(true)
+        && recorder.push(end_of(21)) == Some(true)
+}
+
+// What a collector pops that sees this one last, and then nothing.
+fn end_with(collector: &mut OwnLaneOut, event: Note, end: Note) -> bool {
+    collector.pop() == Some(event) && collector.pop() == Some(end) && collector.pop().is_none()
+}
+
 #[test]
 fn notes_come_out_whole(rt: HostRuntime) {
     let (mut recorder, mut collector) = both_ends(rt.alloc(), 20).expect(&rt, "a lane");
     assert!(rt; collector.peek().is_none() && collector.pop().is_none());
-    assert!(rt; pushes(&mut recorder, 20));
-    assert!(rt; recorder.push(event_at(20)) == Some(false));
-    assert!(rt; pops(&mut collector, 20));
-    assert!(rt; recorder.push(event_at(20)) == Some(true));
-    assert!(rt; recorder.push(end_of(21)) == Some(true));
-    assert!(rt; collector.pop() == Some(event_at(20)));
-    assert!(rt; collector.pop() == Some(end_of(21)));
-    assert!(rt; collector.pop().is_none());
+    assert!(rt; come_out_whole(&mut recorder, &mut collector));
+    assert!(rt; end_with(&mut collector, event_at(20), end_of(21)));
 }
 
 // What is pushed before the pushing ends is popped in its order, without another look.

@@ -253,14 +253,13 @@ fn counts(alloc: Global, tables: Vec<Table>, count: usize, wants: &[(u32, u32)])
 }
 
 // Even locks and odd ones, and each third one: of these 6,667 are among the first 20,000.
+fn are_merged(alloc: Global) -> Result<bool, Memory> {
+    let tables = large_tables(alloc)?;
+    let wants = &[(0, 4), (1, 6), (2, 5), (3, 4), (4, 5), (5, 6)];
+    Ok(counts(alloc, tables, 23_333, wants))
+}
+
 #[test]
 fn large_merges(rt: HostRuntime) {
-    match large_tables(rt.alloc()) {
-        Ok(tables) => {
-            let wants = &[(0, 4), (1, 6), (2, 5), (3, 4), (4, 5), (5, 6)];
-            let is_merged = counts(rt.alloc(), tables, 23_333, wants);
-            expect(&rt, is_merged, "large tables", 0);
-        }
-        Err(_) => expect(&rt, false, "memory for large tables", 0),
-    }
+    expect(&rt, are_merged(rt.alloc()) == Ok(true), "large tables", 0);
 }
