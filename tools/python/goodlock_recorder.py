@@ -254,16 +254,21 @@ def interrupted(lock, error, frame):
         recorder.settles(lock._known, frame, depth_of(lock))
 
 
-def allocate_raw_lock():
-    """Stands for _thread.allocate_lock: the standard library's own locks stay as they are."""
-    return allocate_lock() if is_standard(caller().f_code.co_filename) else Lock()
+class AllocateLock:
+    """Stands for _thread.allocate_lock, and for what the threading module has of it: the standard library's own locks stay as they are. The
+    real one isn't written in Python: as a field of a class it is given no object, and it is pickled by its name."""
 
+    __slots__ = ()
+    __module__ = "_thread"
 
-def allocate_lock_seen():
-    """Stands for threading._allocate_lock: the threading module's own locks stay as they are."""
-    if caller().f_code.co_filename == THREADING:
-        return allocate_lock()
-    return Lock()
+    def __call__(self):
+        return allocate_lock() if is_standard(caller().f_code.co_filename) else Lock()
+
+    def __reduce__(self):
+        return self.__name__
+
+    def __getattr__(self, name):
+        return getattr(allocate_lock, name)
 
 
 # --- Semaphores -------------------------------------------------------------------------------------------
@@ -431,8 +436,7 @@ def started_process(directory):
 def stand_before_threading():
     threading.Lock = Lock
     threading._CRLock = RLock
-    threading._allocate_lock = allocate_lock_seen
-    _thread.allocate_lock = _thread.allocate = allocate_raw_lock
+    threading._allocate_lock = _thread.allocate_lock = _thread.allocate = AllocateLock()
     threading.Semaphore._goodlock_known = None  # of those that were made before, or without that constructor
     threading.Semaphore.__init__ = semaphore_start
     threading.Semaphore.acquire = threading.Semaphore.__enter__ = semaphore_acquire

@@ -752,6 +752,23 @@ def raw_locks():
     tempfile.gettempdir()  # takes a lock of the standard library's own
 
 
+class Maker:
+    make, make_again, make_seen = _thread.allocate_lock, _thread.allocate, threading._allocate_lock
+
+
+@program
+def raw_locks_by_fields():
+    maker = Maker()
+    first, second = maker.make(), maker.make_again()  # @field_made
+    third = maker.make_seen()  # @field_made_last
+    with first:  # @field_first
+        with second:  # @field_second
+            with third:  # @field_third
+                pass
+    assert pickle.loads(pickle.dumps(maker.make)) is _thread.allocate_lock and maker.make.__name__ == "allocate_lock"
+    assert b"_thread" in pickle.dumps(maker.make) and b"goodlock" not in pickle.dumps(maker.make_seen)
+
+
 @dataclasses.dataclass
 class Record:
     name: str

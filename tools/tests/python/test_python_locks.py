@@ -200,6 +200,20 @@ def test_locks_of_the_thread_module():
     )
 
 
+def test_locks_of_the_thread_module_by_fields_of_a_class():
+    """What makes them is no function of Python's: the object isn't given to it, and it is pickled by its own name."""
+    expect(
+        "raw_locks_by_fields",
+        """
+        main|acq(Lock@@field_made#1)|@field_first
+        main|acq(Lock@@field_made#2)|@field_second
+        main|acq(Lock@@field_made_last#1)|@field_third
+        main|rel(Lock@@field_made_last#1)|@field_third
+        main|rel(Lock@@field_made#2)|@field_second
+        main|rel(Lock@@field_made#1)|@field_first""",
+    )
+
+
 def test_fields_of_dataclasses():
     """The place of a lock is that of the object that it is a field of."""
     expect(
