@@ -300,6 +300,7 @@ class Places:
         self.own = own
         self.frames = frames
         self.sites = {}
+        self.sites_of_texts = {}  # code that is made anew for each call, as by exec, has its places again
         self.kept = []  # the code whose identities are keys
 
     def first_frame(self, frame):
@@ -439,12 +440,15 @@ class Process:
             self.losses[LOST_PLACES] += 1
             return 0
         with self.births:
-            if key not in self.places.sites:
-                if self.write(RECORD_PLACE, [self.next_site], text) is None:
-                    self.losses[LOST_PLACES] += 1
-                self.places.sites[key] = self.next_site
+            site = self.places.sites_of_texts.get(text)
+            if site is None:
+                site = self.next_site
                 self.next_site += 1
-            return self.places.sites[key]
+                if self.write(RECORD_PLACE, [site], text) is None:
+                    self.losses[LOST_PLACES] += 1
+                self.places.sites_of_texts[text] = site
+            self.places.sites[key] = site
+            return site
 
     def number_of(self, known):
         """The number of a lock at its first event; 0 where it can't have one yet."""

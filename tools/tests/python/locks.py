@@ -430,6 +430,12 @@ def repeats():
 
 
 @program
+def repeats_of_code_that_is_made_anew():
+    for _ in range(1000):
+        exec("with a:\n    with b:\n        pass\n")
+
+
+@program
 def frames():
     def outer():
         pair()  # @frames_outer

@@ -149,6 +149,14 @@ def test_repeats_are_left_out():
     assert len(record("repeats", "--all").lines()) == 4 * (5 + 1 + 3) + 2, "--all leaves something out"
 
 
+@pytest.mark.parametrize("frames", ["1", "2"])
+def test_repeats_of_code_that_is_made_anew(frames):
+    """The places are the same."""
+    run = record("repeats_of_code_that_is_made_anew", "--frames", frames)
+    assert "4 events (and %d of repeats, left out)" % (4 * 999) in run.said, run.said
+    assert len(run.lines()) == 4, "%d lines" % len(run.lines())
+
+
 def test_what_is_left_out_adds_no_edge():
     whole_length = short_length = 0
     for seed in ("1", "2", "3"):
