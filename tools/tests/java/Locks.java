@@ -403,6 +403,29 @@ public class Locks {
         lock.unlock(); // @counted_unlock_3
     }
 
+    /** A class of locks that makes other ones, also before it is made itself. */
+    static class Nested extends ReentrantLock {
+        final Lock inner = new ReentrantLock(); // @nested_inner
+
+        Nested() {
+            super(isFair(new ReentrantLock())); // @nested_made
+        }
+
+        static boolean isFair(Lock lock) {
+            lock.lock(); // @nested_argument_lock
+            lock.unlock(); // @nested_argument_unlock
+            return true;
+        }
+    }
+
+    static void locksOfClassesOfLocks() {
+        Nested lock = new Nested();
+        lock.inner.lock(); // @nested_inner_lock
+        lock.lock(); // @nested_lock
+        lock.unlock(); // @nested_unlock
+        lock.inner.unlock(); // @nested_inner_unlock
+    }
+
     /** A class of locks that stands before the interruptible acquire. */
     static class Patient extends ReentrantLock {
         Patient() {

@@ -105,6 +105,20 @@ def test_classes_of_locks():
     )
 
 
+def test_locks_that_classes_of_locks_make():
+    """Each has the place where it was made."""
+    expect(
+        "locksOfClassesOfLocks",
+        """
+        main|acq(ReentrantLock@@nested_made#1)|@nested_argument_lock
+        main|rel(ReentrantLock@@nested_made#1)|@nested_argument_unlock
+        main|acq(ReentrantLock@@nested_inner#1)|@nested_inner_lock
+        main|acq(Locks$Nested@@nested_made#1)|@nested_lock
+        main|rel(Locks$Nested@@nested_made#1)|@nested_unlock
+        main|rel(ReentrantLock@@nested_inner#1)|@nested_inner_unlock""",
+    )
+
+
 def test_classes_of_interruptible_locks():
     expect(
         "classesOfInterruptibleLocks",

@@ -183,8 +183,14 @@ final class CallInstrumenter {
     /** After `new` of a lock that is kept (the compiler has put it on the stack twice), or in a constructor of a class of locks, after
      * that of the lock. */
     private boolean made() {
-        boolean bySuper = method.name.equals("<init>") && call.owner.equals(superName) && !call.owner.equals("java/lang/Object");
-        if (!MADE.contains(call.owner) || !bySuper && !isOfNew()) {
+        if (!MADE.contains(call.owner)) {
+            return false;
+        }
+        TypeInsnNode start = startOfNew();
+        boolean bySuper = start == null && method.name.equals("<init>") && call.owner.equals(superName)
+                && !call.owner.equals("java/lang/Object");
+        boolean kept = start != null && start.desc.equals(call.owner) && start.getNext().getOpcode() == Opcodes.DUP;
+        if (!bySuper && !kept) {
             return false;
         }
         InsnList hook = new InsnList();
@@ -195,18 +201,19 @@ final class CallInstrumenter {
         return true;
     }
 
-    private boolean isOfNew() {
+    /** The `new` of the object that this constructor is called for; null where it is called for the object of the present one. */
+    private TypeInsnNode startOfNew() {
         int inner = 0;
         for (AbstractInsnNode at = call.getPrevious(); at != null; at = at.getPrevious()) {
             if (at instanceof MethodInsnNode && ((MethodInsnNode) at).name.equals("<init>")) {
                 inner++;
             } else if (at.getOpcode() == Opcodes.NEW) {
                 if (inner == 0) {
-                    return ((TypeInsnNode) at).desc.equals(call.owner) && at.getNext().getOpcode() == Opcodes.DUP;
+                    return (TypeInsnNode) at;
                 }
                 inner--;
             }
         }
-        return false;
+        return null;
     }
 }
