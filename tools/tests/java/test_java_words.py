@@ -79,6 +79,24 @@ def test_folder_whose_name_has_quotes_and_blanks():
 
 
 @pytest.mark.usefixtures("classes")
+def test_classes_of_the_jdk_that_the_recorder_uses():
+    """What it does itself isn't recorded, as where it goes on in a new file: here each has 1 MB, and is full after 131,072 events. The
+    program takes its 100,000 pairs of monitors after the join, and nothing else."""
+    recorder = tools_in("small")
+    path = "small/java/src/goodlock/runtime/Files.java"
+    with open(path) as file:
+        source = file.read()
+    assert "EXTENT_BYTES = 64 << 20;" in source
+    with open(path, "w") as file:
+        file.write(source.replace("EXTENT_BYTES = 64 << 20;", "EXTENT_BYTES = 1 << 20;"))
+    run = Run(recorder, program("repeats"), ["--jdk", "--all"])
+    assert run.status == 0 and "lost" not in run.said, run.said
+    lines = run.lines()
+    after = lines[next(at for at, line in enumerate(lines) if "|join(" in line) + 1 :]
+    compare(after[:400000], expand(PAIR, MARKS) * 100000)
+
+
+@pytest.mark.usefixtures("classes")
 def test_java_that_is_too_old():
     """It runs on as without the recorder. That is seen by a recorder that is made too new; the agent itself is read by Java 8."""
     recorder = tools_in("new")

@@ -3,6 +3,7 @@ package goodlock.runtime;
 import java.io.IOException;
 import java.util.concurrent.locks.Lock;
 import java.util.concurrent.locks.StampedLock;
+import java.util.function.Supplier;
 
 /**
  * What instrumented code calls: at each event with the object and the number of the place. No lock is taken here but where a lock, place
@@ -62,6 +63,23 @@ public final class Recorder {
         return Recorder.class;
     }
 
+    /** Does work of the recorder's own, of which nothing is recorded, whatever of the JDK it uses. */
+    public static <T> T quietly(Supplier<T> work) {
+        ThreadState state = STATE.get();
+        ThreadState quiet = state != null ? state : new ThreadState(process, null, 0);
+        boolean before = quiet.busy;
+        quiet.busy = true;
+        STATE.set(quiet);
+        try {
+            return work.get();
+        } finally {
+            quiet.busy = before;
+            if (state == null) {
+                STATE.remove();
+            }
+        }
+    }
+
     // --- The present thread
 
     private static ThreadState state() {
@@ -71,6 +89,17 @@ public final class Recorder {
 
     /** A thread's first event, or the first after its thread-locals were erased. */
     private static ThreadState enter() {
+        ThreadState state = null;
+        STATE.set(new ThreadState(process, null, 0)); // until its own is there, nothing is recorded
+        try {
+            state = newState();
+        } finally {
+            STATE.set(state);
+        }
+        return state;
+    }
+
+    private static ThreadState newState() {
         Thread thread = Thread.currentThread();
         ThreadState state;
         ThreadEntry entry = THREADS.find(thread);
@@ -86,7 +115,6 @@ public final class Recorder {
                 THREADS.add(entry);
             }
         }
-        STATE.set(entry.state);
         return entry.state;
     }
 

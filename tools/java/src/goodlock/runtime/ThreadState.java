@@ -93,7 +93,14 @@ final class ThreadState {
     }
 
     private boolean nextChunk() {
-        ByteBuffer more = process.newEvents(number, chunks++);
+        ByteBuffer more;
+        boolean before = busy;
+        busy = true; // what the recorder itself does isn't recorded
+        try {
+            more = process.newEvents(number, chunks++);
+        } finally {
+            busy = before;
+        }
         if (more == null) {
             return false;
         }

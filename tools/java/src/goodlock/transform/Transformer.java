@@ -86,7 +86,8 @@ public final class Transformer implements ClassFileTransformer {
     public byte[] transform(Module module, ClassLoader loader, String name, Class<?> loaded, ProtectionDomain domain,
             byte[] code) {
         boolean before = loaded != null && loadedBefore.contains(loaded);
-        return AccessController.doPrivileged((PrivilegedAction<byte[]>) () -> transform(module, name, before, code));
+        PrivilegedAction<byte[]> action = () -> transform(module, name, before, code);
+        return Recorder.quietly(() -> AccessController.doPrivileged(action));
     }
 
     private byte[] transform(Module module, String name, boolean loaded, byte[] code) {
