@@ -163,7 +163,7 @@ class RecordedLock:
             raise
 
     @without_look
-    def __exit__(self, kind, value, traceback):
+    def __exit__(self, *ignored):
         try:
             self._raw.release()
         except BaseException as error:

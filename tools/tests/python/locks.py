@@ -857,6 +857,8 @@ def like_the_real_ones():
             else:
                 raise AssertionError(call)
         assert "unlocked" in repr(lock) and lock in {lock}
+        lock.__enter__()  # @real_enter
+        lock.__exit__()  # @real_exit
     with b:  # @real_b
         pass
 

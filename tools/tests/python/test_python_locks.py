@@ -230,6 +230,10 @@ def test_locks_behave_like_the_real_ones():
     expect(
         "like_the_real_ones",
         """
+        main|acq(Lock@@a#1)|@real_enter
+        main|rel(Lock@@a#1)|@real_exit
+        main|acq(RLock@@again#1)|@real_enter
+        main|rel(RLock@@again#1)|@real_exit
         main|acq(Lock@@b#1)|@real_b
         main|rel(Lock@@b#1)|@real_b""",
     )
