@@ -39,6 +39,15 @@ def test_each_trace_of_a_folder_has_its_report(path):
     }
 
 
+def test_a_folder_and_traces_may_be_links(path):
+    write("disk/one.std", TRACE)
+    write("kept/two.std", CLEAN)
+    os.symlink("../kept/two.std", "disk/two.std")
+    os.symlink("disk", "traces")
+    assert predict_all(path, "traces") == (0, "", "")
+    assert set(reports()) == {"traces/one.std.json", "traces/two.std.json"}
+
+
 def test_findings_of_two_runs_are_merged_by_the_viewer(path):
     """The second run has twelve pairs of other threads at the same places: 144 cycles, and the same finding."""
     write("one.std", TRACE)
