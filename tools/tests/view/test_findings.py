@@ -93,6 +93,14 @@ def test_a_folder_is_all_reports_below_it():
     assert heads(view("night")[1])[1] == "3 findings, 3 cycles in 3 reports"
 
 
+def test_words_behind_two_dashes_are_reports():
+    write("-r.json", EXAMPLE)
+    write("other.json", EXAMPLE)
+    assert view("--", "-r.json") == view("--text", "--", "-r.json") == view("./-r.json")
+    assert view("other.json", "--", "-r.json", "other.json") == view("other.json", "./-r.json", "other.json")
+    assert view("-r.json")[0] == view("--text", "--")[0] == 2
+
+
 def test_blank_places_are_told_apart_by_locks_but_not_by_addresses():
     blank = ("", "?", " ", "")
     write("r.json", report(pair("m@0x12", "n@0x7fAB", places=blank), pair("m@0x99", "n@0x3", places=blank)))

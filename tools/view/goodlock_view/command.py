@@ -62,7 +62,7 @@ def parser() -> argparse.ArgumentParser:
     )
     reports = made.add_argument_group("Arguments")
     reports.add_argument(
-        "reports", nargs="+", metavar="REPORT", help="a JSON report; a folder: all *.json below it; -: standard input"
+        "reports", nargs="*", metavar="REPORT", help="a JSON report; a folder: all *.json below it; -: standard input"
     )
     options = made.add_argument_group("Options")
     _add_options(options.add_argument)
@@ -85,7 +85,11 @@ def _add_options(add: Callable[..., argparse.Action]) -> None:
 
 
 def _options_of(arguments: Sequence[str]) -> argparse.Namespace:
-    options = parser().parse_intermixed_args(arguments)
+    end = arguments.index("--") if "--" in arguments else len(arguments)
+    options = parser().parse_intermixed_args(arguments[:end])
+    options.reports += arguments[end + 1 :]  # argparse looks for reports once more, and has forgotten the dashes then
+    if not options.reports:
+        raise Refusal("the following arguments are required: REPORT (--help tells the usage)")
     options.reports = [report for path in options.reports for report in reports_of(path)]
     _check_paths(options)
     return options
