@@ -6,7 +6,7 @@ done (`busy`, `put_off`). A RecursionError may come at each call of a function: 
 release is done wholly, or not at all.
 """
 
-from _thread import RLock, _local
+from _thread import RLock, _local, get_ident
 from errno import EDEADLK
 
 from goodlock_files import (
@@ -645,14 +645,14 @@ class Recorder:
             state.record[THREAD_CHILDREN] = state.children
             state.end_segment()
             place = state.store(FORK | site << SITE_SHIFT | number << OBJECT_SHIFT)
-            return ThreadState(self.process, record, number), state.words, place
+            return ThreadState(self.process, record, number), state.words, place, get_ident()
         finally:
             state.busy = False
             if state.put_off:
                 self.catch_up(state)
 
     def not_started(self, plan):
-        new, words, place = plan
+        new, words, place, _ = plan
         state = self.state()
         state.children -= 1
         state.record[THREAD_CHILDREN] = state.children
@@ -662,8 +662,12 @@ class Recorder:
         state.count_other()
 
     def adopt(self, plan):
-        """The present thread is the planned one."""
-        self.local.state = plan[0]
+        """The present thread is the planned one; False where it isn't: a greenlet runs on the thread that started it."""
+        new, _, _, starter = plan
+        if starter == get_ident():
+            return False
+        self.local.state = new
+        return True
 
     def joined(self, plan, frame):
         state = self.state()

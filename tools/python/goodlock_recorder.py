@@ -49,6 +49,9 @@ SEMAPHORES_UNSEEN = "%d semaphores were made with another value than 1: they are
 SEMAPHORES_NO_LOCKS = (
     "%d semaphores of value 1 were released by threads that didn't hold them: they are no locks, and are left out"
 )
+GREENLETS_UNSEEN = (
+    "%d threads were greenlets, which aren't seen: what they did is recorded as done by the threads that ran them"
+)
 
 recorder = None
 
@@ -372,8 +375,8 @@ def thread_start(self):
 @functools.wraps(real_bootstrap)
 def thread_bootstrap(self):
     plan = getattr(self, "_goodlock_plan", None)
-    if plan is not None:
-        recorder.adopt(plan)
+    if plan is not None and not recorder.adopt(plan):
+        recorder.note(GREENLETS_UNSEEN)
     real_bootstrap(self)
 
 

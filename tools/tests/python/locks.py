@@ -418,6 +418,16 @@ def queues():
 
 
 @program
+def greenlets():
+    """As where a library lets them stand for threads: each one runs on the thread that starts it."""
+    first = threading.current_thread()
+    threading._start_new_thread = lambda routine, arguments: routine(*arguments)
+    threading.Thread(target=pair, daemon=True).start()  # @greenlet_start
+    threading._active[first.ident] = first
+    pair()
+
+
+@program
 def repeats():
     for _ in range(5):
         pair()

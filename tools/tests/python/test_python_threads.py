@@ -44,6 +44,12 @@ def test_routines_that_are_odd_objects():
     expect("odd_routines", text + PAIR.replace("main|", "main.1|"))
 
 
+def test_greenlets_that_stand_for_threads():
+    """What they do is done by the thread that they run on, as what that does later."""
+    run = expect("greenlets", "main|fork(main.1:pair)|@greenlet_start" + PAIR)
+    assert "1 threads were greenlets, which aren't seen" in run.said, run.said
+
+
 def test_thread_pools():
     run = record("pool")
     assert run.status == 0, run.said
