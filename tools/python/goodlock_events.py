@@ -53,6 +53,10 @@ class Held:
         self.chunk = None
         self.news = news
 
+    def word(self):
+        """The word of its acquire, which its identity is, or begins with where it was acquired in an earlier segment."""
+        return self.identity[0] if isinstance(self.identity, tuple) else self.identity
+
 
 class ThreadState:
     """What is known of a thread that runs."""
@@ -143,7 +147,7 @@ class ThreadState:
         context = 0
         for held in self.held:
             held.place = None
-            held.identity = (held.identity, self.segments)
+            held.identity = (held.word(), self.segments)
             context = held.context = self.context_of(context, held.identity)
 
     # Acquires and releases
@@ -706,11 +710,8 @@ class Recorder:
         state = self.local.state = self.first_state()
         state.made = old.made
         for held in old.held if state.record is not None else []:
-            identity = held.identity
-            while isinstance(identity, tuple):
-                identity = identity[0]
             for _ in range(held.depth):
-                state.acquire(identity & CALL_MASK, TRY_ACQUIRE)
+                state.acquire(held.word() & CALL_MASK, TRY_ACQUIRE)
 
 
 def wait(state, call):

@@ -418,6 +418,23 @@ def queues():
 
 
 @program
+def lock_held_through_many_starts():
+    """On a small stack, where nothing that grows with their number fits."""
+
+    def starts():
+        with a:
+            for _ in range(1500):
+                thread = threading.Thread()
+                thread.start()
+                thread.join()
+
+    threading.stack_size(128 * 1024)
+    thread = threading.Thread(target=starts)
+    thread.start()
+    thread.join()
+
+
+@program
 def greenlets():
     """As where a library lets them stand for threads: each one runs on the thread that starts it."""
     first = threading.current_thread()

@@ -44,6 +44,14 @@ def test_routines_that_are_odd_objects():
     expect("odd_routines", text + PAIR.replace("main|", "main.1|"))
 
 
+def test_lock_held_through_many_starts():
+    """Each ends a segment, and what is kept of the lock stays as it is."""
+    run = record("lock_held_through_many_starts")
+    assert run.status == 0, run.said
+    words = [line.split("|")[1].split("(")[0] for line in run.lines()]
+    assert words == ["fork", "join", "acq"] + ["fork", "join"] * 1500 + ["rel"], "%d lines" % len(words)
+
+
 def test_greenlets_that_stand_for_threads():
     """What they do is done by the thread that they run on, as what that does later."""
     run = expect("greenlets", "main|fork(main.1:pair)|@greenlet_start" + PAIR)
