@@ -216,6 +216,9 @@ class Lock(RecordedLock):
     acquire_lock = RecordedLock.acquire
     release_lock = RecordedLock.release
 
+    def __init_subclass__(cls):
+        raise TypeError("type '_thread.lock' is not an acceptable base type")
+
     def locked(self):
         return self._raw.locked()
 

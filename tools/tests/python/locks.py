@@ -886,6 +886,12 @@ def like_the_real_ones():
         assert "unlocked" in repr(lock) and lock in {lock}
         lock.__enter__()  # @real_enter
         lock.__exit__()  # @real_exit
+    try:
+        type("OwnLock", (threading.Lock,), {})
+    except TypeError:
+        pass
+    else:
+        raise AssertionError("Lock can't be a base")
     with b:  # @real_b
         pass
 
