@@ -73,6 +73,26 @@ static uint32_t roles_of(uint64_t word)
     return site < ROLE_SITES ? roles[site] : 0;
 }
 
+/* --- The lock of what follows ------------------------------------------------------------------------------- */
+
+static int waiters_lock;
+
+/* Shuts signal handlers out, too: one that locks at an edge would wait here for the thread that it interrupts. Gives
+ * the signals that were shut out before. */
+static uint64_t waiters_enter(void)
+{
+    uint64_t every = ~0ull, before = 0;
+    syscall(SYS_rt_sigprocmask, SIG_BLOCK, &every, &before, sizeof before);
+    inner_take(&waiters_lock);
+    return before;
+}
+
+static void waiters_leave(uint64_t signals)
+{
+    inner_leave(&waiters_lock);
+    syscall(SYS_rt_sigprocmask, SIG_SETMASK, &signals, NULL, sizeof signals);
+}
+
 /* --- What threads wait for ---------------------------------------------------------------------------------- */
 
 /* confirm.py reads the same layout. */
@@ -83,6 +103,7 @@ struct wait {
     uint64_t address;
     uint64_t condition;
     uint64_t held_count;
+    uint64_t thread;
     uint64_t held[HELD_LIMIT];
     uint64_t wanted_stack[STACK_LIMIT];
     uint64_t held_stacks[EDGE_LIMIT][STACK_LIMIT];
@@ -91,10 +112,22 @@ struct wait {
 #define WAIT_SLOTS 2048
 
 static struct wait *waits;
+static uint8_t is_taken[WAIT_SLOTS];
 
+/* A thread has a place from its first call until it ends: however many come and go, those that are there have one. */
 static struct wait *wait_of(struct thread *thread)
 {
-    return waits && thread->number < WAIT_SLOTS ? &waits[thread->number] : NULL;
+    if (thread->wait)
+        return thread->wait;
+    uint64_t signals = waiters_enter();
+    for (size_t i = 0; i < WAIT_SLOTS && !thread->wait; i++)
+        if (!is_taken[i]) {
+            is_taken[i] = 1;
+            waits[i].thread = thread->number;
+            thread->wait = &waits[i];
+        }
+    waiters_leave(signals);
+    return thread->wait;
 }
 
 static void wait_begin(struct thread *thread, struct wait *wait, uint64_t word, const void *lock, int condition)
@@ -121,23 +154,6 @@ struct waiter {
 };
 
 static struct waiter waiters[WAITERS];
-static int waiters_lock;
-
-/* Shuts signal handlers out, too: one that locks at an edge would wait here for the thread that it interrupts. Gives
- * the signals that were shut out before. */
-static uint64_t waiters_enter(void)
-{
-    uint64_t every = ~0ull, before = 0;
-    syscall(SYS_rt_sigprocmask, SIG_BLOCK, &every, &before, sizeof before);
-    inner_take(&waiters_lock);
-    return before;
-}
-
-static void waiters_leave(uint64_t signals)
-{
-    inner_leave(&waiters_lock);
-    syscall(SYS_rt_sigprocmask, SIG_SETMASK, &signals, NULL, sizeof signals);
-}
 
 static void waiter_drop(struct thread *thread)
 {
@@ -252,6 +268,19 @@ void confirm_after(struct thread *thread)
         __atomic_store_n(&wait->wanted, 0, __ATOMIC_RELEASE);
 }
 
+void confirm_end(struct thread *thread)
+{
+    struct wait *wait = thread->wait;
+    if (!wait)
+        return;
+    waiter_drop(thread);
+    __atomic_store_n(&wait->wanted, 0, __ATOMIC_RELEASE);
+    uint64_t signals = waiters_enter();
+    is_taken[wait - waits] = 0;
+    thread->wait = NULL;
+    waiters_leave(signals);
+}
+
 /* --- Start -------------------------------------------------------------------------------------------------- */
 
 void confirm_start(void)
@@ -267,6 +296,7 @@ void confirm_start(void)
     waits = file_map(name, WAIT_SLOTS * sizeof *waits);
     roles = pages_new(ROLE_SITES * sizeof *roles);
     memset(waiters, 0, sizeof waiters);
+    memset(is_taken, 0, sizeof is_taken);
     waiters_lock = 0;
     confirming = waits && roles;
 }

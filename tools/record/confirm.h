@@ -20,6 +20,9 @@ void confirm_site(uint64_t site, const char *path, uint64_t offset);
 void confirm_before(struct thread *thread, uint64_t word, const void *lock, uintptr_t return_address, int condition);
 void confirm_after(struct thread *thread);
 
+/* The thread is about to end. */
+void confirm_end(struct thread *thread);
+
 /* The return addresses of the frames from this one on; how many. */
 size_t stack_copy(uintptr_t return_address, uint64_t *addresses, size_t most);
 

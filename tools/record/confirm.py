@@ -61,8 +61,10 @@ LOOK = 0.1
 
 # confirm.c has this layout.
 HELD_LIMIT, STACK_LIMIT = 64, 16
-WAIT_WORDS = 6 + HELD_LIMIT + STACK_LIMIT + EDGE_LIMIT * STACK_LIMIT
-HELD, WANTED_STACK, HELD_STACKS = 6, 6 + HELD_LIMIT, 6 + HELD_LIMIT + STACK_LIMIT
+HELD = 7
+WANTED_STACK = HELD + HELD_LIMIT
+HELD_STACKS = WANTED_STACK + STACK_LIMIT
+WAIT_WORDS = HELD_STACKS + EDGE_LIMIT * STACK_LIMIT
 OBJECT_SHIFT, SITE_SHIFT, SITE_MASK, KIND_MASK = 32, 5, (1 << 27) - 1, 31
 SHARED = (3, 6)
 # Where in a mutex of glibc its owner stands.
@@ -131,10 +133,9 @@ def read_arguments(arguments):
 class Wait:
     """A thread that waits for a lock."""
 
-    def __init__(self, process, thread, words):
+    def __init__(self, process, words):
         self.process = process  # (pid, image)
-        self.thread = thread
-        self.turns, self.task, self.wanted, self.address, self.condition, count = words[:6]
+        self.turns, self.task, self.wanted, self.address, self.condition, count, self.thread = words[:HELD]
         self.held = words[HELD : HELD + min(count, HELD_LIMIT)]
         self.stacks = words[WANTED_STACK:]
 
@@ -180,10 +181,9 @@ def read_waits(directory):
                 if os.fstat(file.fileno()).st_size == 0:
                     continue  # just made
                 data = mmap.mmap(file.fileno(), 0, access=mmap.ACCESS_READ)
-            for thread in range(len(data) // (8 * WAIT_WORDS)):
-                place = 8 * WAIT_WORDS * thread
+            for place in range(0, len(data), 8 * WAIT_WORDS):
                 if struct.unpack_from("=Q", data, place + 16)[0]:
-                    found.append(Wait((pid, image), thread, struct.unpack_from("=%dQ" % WAIT_WORDS, data, place)))
+                    found.append(Wait((pid, image), struct.unpack_from("=%dQ" % WAIT_WORDS, data, place)))
             data.close()
     return found
 

@@ -203,6 +203,7 @@ struct thread {
     uint32_t number;
     uint32_t exit_rounds;
     uint32_t holds;                 /* how often it was held back in vain (confirm.c) */
+    struct wait *wait;              /* where it tells what it waits for; NULL: nowhere yet (confirm.c) */
     uintptr_t stack_from, stack_to; /* its own stack lies between these, with its thread-locals; 0, 0: not known */
     struct thread *next_free;
     uint64_t sink; /* takes what there is no room for */

@@ -9,6 +9,7 @@
 #include <sys/syscall.h>
 #include <unistd.h>
 
+#include "confirm.h"
 #include "process.h"
 #include "real.h"
 
@@ -186,6 +187,7 @@ static void thread_exit(void *value)
         pthread_setspecific(exit_key, thread);
         return;
     }
+    confirm_end(thread);
     struct slow_state state;
     slow_enter(&state);
     if (thread->number != 0 && thread->stack_from < thread->stack_to) /* that of the first one stays */

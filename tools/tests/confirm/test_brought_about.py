@@ -26,6 +26,13 @@ def test_opposite_orders(predict):
     assert "    since one_way (%s)" % marks["one_a"] in out and "    at    one_way (%s)" % marks["one_b"] in out, out
 
 
+def test_threads_that_come_after_many_others(predict):
+    """More of these have ended before than goodlock-confirm looks at at once. The finding is one of a run without them."""
+    status, out, said = run([*PATIENTLY, predict("opposite"), "--", "./cycles", "after_others"])
+    assert status == DEADLOCKED, "status %d: %s%s" % (status, out, said)
+    assert "main.2101:one_way holds a since" in out and "main.2102:other_way holds b since" in out, out
+
+
 def test_ring_of_three(predict):
     deadlocks(predict, "philosophers", 3)
 

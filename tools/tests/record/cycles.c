@@ -60,6 +60,24 @@ static void opposite(void)
     run_threads((void *(*[])(void *)){one_way, other_way}, 2);
 }
 
+/* The same two, after more threads than there are at once anywhere. */
+static void *passes_by(void *unused)
+{
+    pthread_mutex_lock(&gate);
+    pthread_mutex_unlock(&gate);
+    return unused;
+}
+
+static void after_others(void)
+{
+    for (int i = 0; i < 2100; i++) {
+        pthread_t thread;
+        pthread_create(&thread, NULL, passes_by, NULL);
+        pthread_join(thread, NULL);
+    }
+    opposite();
+}
+
 /* Three threads that run the same lines. */
 static void *philosopher(void *number)
 {
@@ -337,6 +355,7 @@ int main(int count, char **arguments)
         {"opposite", opposite}, {"philosophers", philosophers}, {"readers", readers}, {"conditions", conditions},
         {"wakes", wakes}, {"pool", pool}, {"false_semaphore", false_semaphore}, {"false_flag", false_flag},
         {"false_own_locks", false_own_locks}, {"false_handed_over", false_handed_over},
+        {"after_others", after_others},
     };
     for (size_t i = 0; count > 1 && i < sizeof programs / sizeof programs[0]; i++)
         if (strcmp(programs[i].name, arguments[1]) == 0) {
