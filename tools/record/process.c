@@ -627,15 +627,17 @@ static void process_start(const struct process *parent)
  * long as this process may make it. */
 void user_directory(uid_t user)
 {
-    char path[4096];
-    if (user == 0 || user == (uid_t)-1 || geteuid() != 0 || !process_ready())
+    static char path[4096]; /* not on the stack, of which a thread may have little */
+    char digits[DIGITS];
+    struct slow_state state;
+    if (user == 0 || user == (uid_t)-1 || geteuid() != 0 || slow_inside() || !process_ready())
         return;
-    int error = errno;
-    snprintf(path, sizeof path, "%s/u%u", process.directory, (unsigned)user);
+    slow_enter(&state);
+    text_join(path, sizeof path, process.directory, "/u", digits_of(user, digits), NULL);
     if (chmod(process.directory, 0711) == 0 && mkdir(path, 0700) == 0 &&
         (chmod(path, 0700) != 0 || chown(path, user, (gid_t)-1) != 0))
         rmdir(path);
-    errno = error;
+    slow_leave(&state);
 }
 
 /* --- Fork ----------------------------------------------------------------------------------------------- */

@@ -1,7 +1,9 @@
 /* Programs for the recorder's tests: the first argument names one. A mark as in `@name` in a comment stands for its
  * line in the expected traces. */
 #define _GNU_SOURCE
+#include <alloca.h>
 #include <errno.h>
+#include <limits.h>
 #include <pthread.h>
 #include <semaphore.h>
 #include <signal.h>
@@ -969,6 +971,33 @@ static void gives_up_root(void)
     volume();
 }
 
+/* With so much left of the stack as one path may have. */
+static void *gives_up_root_here(void *unused)
+{
+    pthread_attr_t attributes;
+    void *lowest = NULL;
+    size_t bytes = 0;
+    char here;
+    pthread_getattr_np(pthread_self(), &attributes);
+    pthread_attr_getstack(&attributes, &lowest, &bytes);
+    volatile char *filled = alloca((size_t)(&here - (char *)lowest) - 4096);
+    filled[0] = 1;
+    MUST(setuid(65534) == 0);
+    one_pair();
+    return unused;
+}
+
+static void gives_up_root_on_a_small_stack(void)
+{
+    pthread_attr_t attributes;
+    pthread_t thread;
+    one_pair();
+    pthread_attr_init(&attributes);
+    pthread_attr_setstacksize(&attributes, PTHREAD_STACK_MIN);
+    pthread_create(&thread, &attributes, gives_up_root_here, NULL);
+    pthread_join(thread, NULL);
+}
+
 static void cancelled_here(void)
 {
     sem_post(&step);
@@ -1098,6 +1127,7 @@ static const struct {
     {"conditions", conditions}, {"cancel", cancel}, {"threads", threads}, {"two_makers", two_makers},
     {"racing", racing}, {"deadlock", deadlock}, {"aborts", aborts}, {"leaves_at_once", leaves_at_once},
     {"upgrade", upgrade}, {"again_plain", again_plain}, {"handed_over", handed_over}, {"beyond", beyond}, {"leaks", leaks}, {"gives_up_root", gives_up_root},
+    {"gives_up_root_on_a_small_stack", gives_up_root_on_a_small_stack},
     {"hides_its_files", hides_its_files}, {"cancelled_in_once", cancelled_in_once},
     {"many_locks", many_locks}, {"waits_in_background", waits_in_background}, {"stray", stray}, {"keys", keys}, {"signals", signals}, {"signal_storm", signal_storm},
     {"ring", ring}, {"two_rings", two_rings}, {"deeper", deeper}, {"no_threads", no_threads},

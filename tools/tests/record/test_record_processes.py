@@ -424,6 +424,15 @@ def test_program_that_gives_up_root(open_folder):
     assert run.files() == ["t.std"] and raw_directories() == [], str(os.listdir("."))
 
 
+def test_thread_with_little_stack_that_gives_up_root(open_folder):
+    """What the recorder does for that has room in it."""
+    run = record("./locks", "gives_up_root_on_a_small_stack")
+    assert run.status == 0 and "lost" not in run.said, "status %d: %s" % (run.status, run.said)
+    lines = run.lines()
+    compare([line for line in lines if line.startswith("main|") and "(a)" in line], known(PAIR))
+    assert sum(line.startswith("main.1:gives_up_root_here|") for line in lines) == 2 and len(lines) == 6, str(lines)
+
+
 def test_threads_that_fork_at_once():
     run = record("./forking")
     assert run.out == "0 parents and 0 children with others' signals\n", run.out
