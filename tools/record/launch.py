@@ -208,9 +208,7 @@ def read_value(settings, word, value):
         settings.convert = value
 
 
-def read_arguments(
-    arguments, explanation=__doc__, usage=USAGE, flags=("--all",), values=("-o", "--frames", "--convert")
-):
+def read_words(arguments, explanation, usage, flags, values):
     settings = Settings()
     rest = list(arguments)
     while rest and rest[0].startswith("-"):
@@ -238,14 +236,27 @@ def read_arguments(
     return settings
 
 
+def check_convert(settings, usage):
+    if settings.command and settings.convert is not None:
+        raise Failed("--convert takes one directory, and runs no program\n%s" % usage)
+
+
+def read_arguments(arguments, explanation, usage):
+    """Those of each recorder."""
+    settings = read_words(arguments, explanation, usage, ("--all",), ("-o", "--frames", "--convert"))
+    check_convert(settings, usage)
+    return settings
+
+
 def read_own_arguments(arguments):
     """Those of goodlock-record: it can follow a program, too."""
     values = ("-o", "--frames", "--convert", *("--" + name for name in LIVE_VALUES))
     flags = ("--all", "--live", "--functions", *("--" + name for name in LIVE_FLAGS))
-    settings = read_arguments(arguments, flags=flags, values=values)
+    settings = read_words(arguments, __doc__, USAGE, flags, values)
     for name in LIVE_VALUES + LIVE_FLAGS:
         if getattr(settings, name) not in (None, False) and not settings.live:
             raise Failed("--%s is for --live\n%s" % (name, USAGE))
+    check_convert(settings, USAGE)
     return settings
 
 

@@ -49,6 +49,17 @@ def test_it_takes_recordings_only(precious, directory, text):
             assert file.read() == "text of somebody", "a file was changed"
 
 
+def test_it_takes_one_recording():
+    """As where there are two of a name, and a pattern of the shell's stands for both: neither is passed over in silence."""
+    program, directory = orphan()
+    end(program)
+    command = [RECORD, "-o", "t.std", "--convert", directory, directory + "0"]
+    done = subprocess.run(command, stderr=subprocess.PIPE, timeout=LIMIT)
+    said = done.stderr.decode()
+    assert done.returncode == REFUSED and "--convert takes one directory, and runs no program\nusage: " in said, said
+    assert os.path.isdir(directory) and not os.path.exists("t.std"), "it was converted"
+
+
 def test_it_removes_its_own_files_only():
     program, directory = orphan()
     end(program)
