@@ -93,7 +93,7 @@ class Settings:
 
 
 def read_number(word, text):
-    if not text.isdigit() or not 1 <= int(text) <= 1000000:
+    if not (text.isascii() and text.isdigit() and len(text) <= 7 and 1 <= int(text) <= 1000000):
         raise Failed("%s takes a number from 1 to 1000000" % word)
     return int(text)
 

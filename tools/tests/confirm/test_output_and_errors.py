@@ -70,6 +70,8 @@ def test_errors(predict):
         ([], "usage"),
         ([report], "usage"),
         (["--tries", "0", report, "--", "true"], "--tries"),
+        (["--tries", "²", report, "--", "true"], "--tries takes a number"),
+        (["--seconds", "1" * 5000, report, "--", "true"], "--seconds takes a number"),
         (["missing.json", "--", "true"], "missing.json"),
         (["no-report.json", "--", "true"], "not a report"),
         (["deep.json", "--", "true"], "not a report"),
