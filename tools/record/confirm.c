@@ -283,20 +283,37 @@ void confirm_end(struct thread *thread)
 
 /* --- Start -------------------------------------------------------------------------------------------------- */
 
+/* A forked process has its parent's plan, whatever became of its variables. */
+static int has_plan(void)
+{
+    const char *path = plan ? NULL : variable("GOODLOCK_CONFIRM_PLAN");
+    if (path && (plan = file_read(path)) != NULL &&
+        (sscanf(plan, "%u %u", &plan_edges, &plan_milliseconds) != 2 || plan_edges < 1 || plan_edges > EDGE_LIMIT))
+        plan = NULL;
+    return plan != NULL;
+}
+
+/* Where it has its parent's numbers of sites, it has their roles, too. */
+static int has_roles(void)
+{
+    if (roles && process.next_site == 1)
+        memset(roles, 0, ROLE_SITES * sizeof *roles);
+    else if (!roles)
+        roles = pages_new(ROLE_SITES * sizeof *roles);
+    return roles != NULL;
+}
+
 void confirm_start(void)
 {
-    const char *path = variable("GOODLOCK_CONFIRM_PLAN");
+    static char name[4096]; /* not on the stack, of which a thread may have little */
     confirming = 0;
-    if (!path || !(plan = file_read(path)) || sscanf(plan, "%u %u", &plan_edges, &plan_milliseconds) != 2 ||
-        plan_edges < 1 || plan_edges > EDGE_LIMIT)
+    if (!has_plan() || !has_roles())
         return;
-    char name[4096];
     snprintf(name, sizeof name, "%s/%llu.%llu.waits", process.directory, (unsigned long long)process.pid,
              (unsigned long long)process.image);
     waits = file_map(name, WAIT_SLOTS * sizeof *waits);
-    roles = pages_new(ROLE_SITES * sizeof *roles);
     memset(waiters, 0, sizeof waiters);
     memset(is_taken, 0, sizeof is_taken);
     waiters_lock = 0;
-    confirming = waits && roles;
+    confirming = waits != NULL;
 }

@@ -5,6 +5,7 @@ import re
 import subprocess
 import textwrap
 
+import pytest
 from c_programs import MARKS, TOOLS
 from confirming import DEADLOCKED, PATIENTLY, VIEW, deadlocks, run
 
@@ -31,6 +32,14 @@ def test_threads_that_come_after_many_others(predict):
     status, out, said = run([*PATIENTLY, predict("opposite"), "--", "./cycles", "after_others"])
     assert status == DEADLOCKED, "status %d: %s%s" % (status, out, said)
     assert "main.2101:one_way holds a since" in out and "main.2102:other_way holds b since" in out, out
+
+
+@pytest.mark.parametrize("name", ["after_fork", "after_fork_without_variables"])
+def test_threads_of_a_forked_process(predict, name):
+    """Its parent came to the same places before, and may have none of its variables left."""
+    status, out, said = run([*PATIENTLY, predict("opposite"), "--", "./cycles", name])
+    assert status == DEADLOCKED, "status %d: %s%s" % (status, out, said)
+    assert "main.1:one_way holds a since" in out and "main.2:other_way holds b since" in out, out
 
 
 def test_ring_of_three(predict):

@@ -78,6 +78,21 @@ static void after_others(void)
     opposite();
 }
 
+/* The same two in a forked process, whose parent was at their places. */
+static void after_fork(void)
+{
+    one_way(NULL);
+    other_way(NULL);
+    if (fork() == 0)
+        opposite();
+}
+
+static void after_fork_without_variables(void)
+{
+    clearenv();
+    after_fork();
+}
+
 /* Three threads that run the same lines. */
 static void *philosopher(void *number)
 {
@@ -355,7 +370,8 @@ int main(int count, char **arguments)
         {"opposite", opposite}, {"philosophers", philosophers}, {"readers", readers}, {"conditions", conditions},
         {"wakes", wakes}, {"pool", pool}, {"false_semaphore", false_semaphore}, {"false_flag", false_flag},
         {"false_own_locks", false_own_locks}, {"false_handed_over", false_handed_over},
-        {"after_others", after_others},
+        {"after_others", after_others}, {"after_fork", after_fork},
+        {"after_fork_without_variables", after_fork_without_variables},
     };
     for (size_t i = 0; count > 1 && i < sizeof programs / sizeof programs[0]; i++)
         if (strcmp(programs[i].name, arguments[1]) == 0) {
