@@ -78,6 +78,19 @@ RUNTIMES = (
         "absl::Mutex doesn't pass the C library and isn't in this trace; no tool here records it",
     ),
     Runtime(
+        "oneTBB",
+        r"libtbb(_debug)?\.so[\d.]*",
+        None,
+        "tbb::mutex, tbb::spin_mutex and their like don't pass the C library and aren't in this trace; no tool here records them",
+    ),
+    Runtime(
+        "Boost's shared_mutex",
+        NO_FILE,
+        re.compile(rb"_ZNK?5boost12shared_mutex\d"),
+        "it is made of a mutex and conditions, and isn't in this trace as a lock that is held (other mutexes of Boost.Thread are); "
+        "no tool here records it",
+    ),
+    Runtime(
         "LLVM's C++ library",
         NO_FILE,
         re.compile(rb"_ZNSt3__1(?:11timed_mutex|18shared_timed_mutex|19__shared_mutex_base|21recursive_timed_mutex)\d"),

@@ -22,10 +22,12 @@ QT = 'const char mark[] __attribute__((used)) = "\\0QMutex: destroying locked mu
 ABSEIL = 'const char mark[] __attribute__((used)) = "%s: Mutex corrupt: both reader and writer lock held: %p";'
 LLVM = 'const char mark[] __attribute__((used)) = "_ZNSt3__119__shared_mutex_base11lock_sharedEv";'
 MADE_ALONE = 'const char mark[] __attribute__((used)) = "_ZNSt3__119__shared_mutex_baseC1Ev";'
+BOOST = 'const char mark[] __attribute__((used)) = "_ZNK5boost12shared_mutex10state_data13assert_lockedEv";'
+BOOST_MADE_ALONE = 'const char mark[] __attribute__((used)) = "_ZN5boost12shared_mutexC1Ev";'
 PYTHON = '__attribute__((visibility("default"))) int Py_BytesMain(void) { return 0; }'
 
 LIBRARIES = (
-    "libjvm libpython3.11 libgomp libomp libglib-2.0 libQt5Core libQt6Core libabsl_synchronization libc++".split()
+    "libjvm libpython3.11 libgomp libomp libglib-2.0 libQt5Core libQt6Core libabsl_synchronization libtbb libc++".split()
 )
 
 
@@ -55,6 +57,8 @@ def built(tmp_path_factory):
     compile_program(folder, "has-abseil", ABSEIL)
     compile_program(folder, "has-llvm", LLVM)
     compile_program(folder, "makes-alone", MADE_ALONE)
+    compile_program(folder, "has-boost", BOOST)
+    compile_program(folder, "makes-boost-alone", BOOST_MADE_ALONE)
     for library in LIBRARIES:
         mark = LLVM if library == "libc++" else ""
         compile_program(folder, library + ".so", mark, "-shared", "-fPIC", name="runtime")

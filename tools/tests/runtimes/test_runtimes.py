@@ -69,6 +69,18 @@ def test_abseil():
         assert "has Abseil: absl::Mutex doesn't pass the C library" in said, said
 
 
+def test_onetbb():
+    said = said_of("uses-libtbb")
+    assert "has oneTBB: tbb::mutex, tbb::spin_mutex and their like don't pass the C library" in said, said
+
+
+def test_boost():
+    """Its other locks are those of the C library."""
+    said = said_of("has-boost")
+    assert "has Boost's shared_mutex: it is made of a mutex and conditions, and isn't in this trace" in said, said
+    assert said_of("makes-boost-alone").count("\n") == 1
+
+
 def test_llvm():
     """Who calls the functions of these mutexes has them: not each program whose C++ library it is."""
     said = said_of("has-llvm")
