@@ -37,7 +37,7 @@ from convert import (  # noqa: E402
     take_name,
     without_parameters,
 )
-from family import Family, adopt_orphans, descendants, send_signal  # noqa: E402
+from family import Family, adopt_orphans, send_signal  # noqa: E402
 from findings import ReportError, read_findings  # noqa: E402
 from launch import (  # noqa: E402
     VERSION,
@@ -283,7 +283,7 @@ class Run:
             self.kill()
 
     def members(self):
-        return descendants(self.family.strangers)
+        return self.family.living()
 
     def watch(self):
         """Until the program and all that it started have ended, hang in a cycle, or took too long."""

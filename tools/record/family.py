@@ -137,6 +137,7 @@ class Family:
         self.strangers = frozenset(descendants())  # children from before: an exec may bring some
         self.companion = None  # of a live recording: SIGUSR1 is for it
         self.signalled = {}  # wait statuses of the children that a signal ended
+        self.ends = 0  # how many children's ends were taken
 
     def accompany(self, companion):
         self.companion = companion
@@ -149,9 +150,20 @@ class Family:
         self.companion.ask()
         return True
 
+    def living(self):
+        """The living processes. One that was made after /proc was listed isn't seen; if its makers all end before we look at them, none is,
+        though it lives: as where a server goes into the background by two forks. Its first maker ends as our child then, so where the
+        end of one comes in between, we look again."""
+        while True:
+            ends = self.ends
+            family = descendants(self.strangers)
+            self.reap()
+            if family or self.ends == ends:
+                return family
+
     def recorded(self):
         """Those that write files of the recording, or may."""
-        return self.recorded_among(descendants(self.strangers))
+        return self.recorded_among(self.living())
 
     def recorded_among(self, family):
         """Without /proc these are the children that have files there: who outlives its parent becomes one."""
@@ -169,6 +181,7 @@ class Family:
                 return status
             if ended == 0:
                 return status
+            self.ends += 1
             if ended == first:
                 status = how
             if os.WIFSIGNALED(how):
@@ -200,7 +213,7 @@ class Family:
         limit = time.monotonic() + BEGIN_LIMIT
         while True:
             self.reap()
-            family = descendants(self.strangers)
+            family = self.living()
             running = self.recorded_among(family)
             has_family = bool(family) or (not names_in_proc() and has_children())
             if not running and (not has_family or time.monotonic() > limit):

@@ -904,6 +904,18 @@ static void clears_environment(void)
     one_pair();
 }
 
+/* Processes each of which ends as soon as it has made the next one, as those of a server that goes into the background. The last one
+ * stays until standard input ends. */
+static void forks_away(void)
+{
+    char byte;
+    for (int i = 0; i < 40; i++)
+        if (fork() > 0)
+            _exit(0);
+    MUST(read(0, &byte, 1) == 0);
+    one_pair();
+}
+
 /* Outlives its parent, until standard input ends. */
 static void goes_to_background(void)
 {
@@ -1135,7 +1147,7 @@ static const struct {
     {"repeats", repeats}, {"volume", volume}, {"volume_and_wait", volume_and_wait}, {"volume_and_thread", volume_and_thread},
     {"confined", confined}, {"no_files", no_files}, {"many_threads", many_threads}, {"forks", forks},
     {"parent_goes_on", parent_goes_on}, {"raw_fork", raw_fork}, {"forks_in_handler", forks_in_handler}, {"changes_root", changes_root}, {"executes", executes}, {"clears_environment", clears_environment},
-    {"goes_to_background", goes_to_background}, {"first_thread_ends", first_thread_ends},
+    {"goes_to_background", goes_to_background}, {"forks_away", forks_away}, {"first_thread_ends", first_thread_ends},
     {"first_thread_ends_in_background", first_thread_ends_in_background}, {"waits_for_signal", waits_for_signal}, {"frames", frames}, {"frames_vary", frames_vary},
     {"table", table}, {"nothing", nothing},
 };

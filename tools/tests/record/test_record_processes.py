@@ -209,6 +209,20 @@ def test_process_in_the_background():
     assert len(read_lines(files[1])) == 4, files[1]
 
 
+@pytest.mark.parametrize("name", ["t.std", "u.std", "v.std"])
+def test_processes_that_follow_each_other_fast(name):
+    """The last one is waited for, though each one before it may have ended before it was looked at."""
+    running = subprocess.Popen(
+        [RECORD, "-o", name, "./locks", "forks_away"], stdin=subprocess.PIPE, stderr=subprocess.PIPE
+    )
+    said = read_line(running.stderr)
+    assert b"waiting for process" in said, said.decode()
+    _, said = running.communicate(timeout=LIMIT)
+    assert running.returncode == 0, said.decode()
+    (trace,) = (file for file in os.listdir(".") if file.startswith(name + "."))
+    compare(read_lines(trace), known(PAIR))
+
+
 def test_processes_in_the_background():
     background = "./locks goes_to_background; ./locks goes_to_background; sleep 1"
     running = subprocess.Popen(
