@@ -445,12 +445,19 @@ class Places:
         text = self.text(site)
         return re.sub(r" \([^<]*\)(?=<|$)", "", text) if self.sources.functions else text
 
+    def owner_of(self, site):
+        """The process that told it: this one, or the nearest that it has it from; None where none did."""
+        process = self.process
+        while process and site not in process.places and site not in process.sites:
+            process = process.parent
+        return process
+
     def find_text(self, site):
+        owner = self.owner_of(site)
+        if owner is not self.process:
+            return owner.names.places.text(site) if owner else "?"
         if site in self.process.places:
             return clean("<".join(map(self.sources.shortened, self.process.places[site])))
-        if site not in self.process.sites:
-            parent = self.process.parent
-            return parent.names.places.text(site) if parent and parent.names and site else "?"
         callers, when = self.process.sites[site]
         parts = []
         for address in callers:
@@ -604,9 +611,12 @@ class Names:
             self.name_by_place(number, self.process.locks.get(number) or self.parents_lock(number), site, thread)
 
     def inherited(self, number):
-        parent = self.process.parent
-        if parent and number < self.process.first_lock:
-            return parent.names.locks.get(number) or parent.names.inherited(number)
+        """What the nearest process calls it that this one has it from."""
+        process = self.process
+        while process.parent and number < process.first_lock:
+            process = process.parent
+            if number in process.names.locks:
+                return process.names.locks[number]
         return None
 
     def parents_lock(self, number):
@@ -975,8 +985,9 @@ def convert_recording(recording, trace, first=None, with_functions=False):
 
 def name_process(process, sources):
     """Parents first: a child's names of inherited locks are its parent's."""
-    if process.names:
-        return
-    if process.parent:
-        name_process(process.parent, sources)
-    process.names = Names(process, sources)
+    waiting = []
+    while process and not process.names:
+        waiting.append(process)
+        process = process.parent
+    for process in reversed(waiting):
+        process.names = Names(process, sources)

@@ -908,8 +908,10 @@ static void clears_environment(void)
  * stays until standard input ends. */
 static void forks_away(void)
 {
+    const char *count = getenv("FORKS");
     char byte;
-    for (int i = 0; i < 40; i++)
+    one_pair();
+    for (int i = count ? atoi(count) : 40; i > 0; i--)
         if (fork() > 0)
             _exit(0);
     MUST(read(0, &byte, 1) == 0);

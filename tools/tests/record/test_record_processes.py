@@ -3,6 +3,7 @@
 import fcntl
 import os
 import re
+import resource
 import shutil
 import signal
 import struct
@@ -219,8 +220,22 @@ def test_processes_that_follow_each_other_fast(name):
     assert b"waiting for process" in said, said.decode()
     _, said = running.communicate(timeout=LIMIT)
     assert running.returncode == 0, said.decode()
-    (trace,) = (file for file in os.listdir(".") if file.startswith(name + "."))
-    compare(read_lines(trace), known(PAIR))
+    traces = [file for file in os.listdir(".") if file.startswith(name)]
+    assert len(traces) == 2, str(traces)
+    for trace in traces:
+        compare(read_lines(trace), known(PAIR))
+
+
+def test_very_many_generations_of_processes():
+    """The last one has its lock, and its places, from the first."""
+    small = {"preexec_fn": lambda: resource.setrlimit(resource.RLIMIT_FSIZE, (1 << 16, 1 << 16))}
+    command, environment = [RECORD, "-o", "t.std", "./locks", "forks_away"], {**os.environ, "FORKS": "700"}
+    done = subprocess.run(command, stdin=subprocess.DEVNULL, stderr=subprocess.PIPE, env=environment, **small)
+    assert done.returncode == 0, done.stderr.decode()
+    traces = [file for file in os.listdir(".") if file.startswith("t.std")]
+    assert len(traces) == 2, str(traces)
+    for trace in traces:
+        compare(read_lines(trace), known(PAIR))
 
 
 def test_processes_in_the_background():
