@@ -323,13 +323,14 @@ def find_deleted(processes, modules):
 
 
 def read_tables(recording, wanted):
-    """The words of the tables of each of these processes, in order."""
+    """The words of the tables of each of these processes, in order. They are copied: a chunk keeps its file open, of which there may be
+    more than this process may have."""
     tables = {key: [] for key in wanted}
     for pid, image, _, path in recording.extents():
         if (pid, image) in tables:
             for magic, _, order, _, words in read_chunks(path):
                 if magic == CHUNK_TABLE:
-                    tables[pid, image].append((order, words))
+                    tables[pid, image].append((order, array("Q", words.tobytes())))
     return {key: [words for _, words in sorted(found, key=lambda table: table[0])] for key, found in tables.items()}
 
 

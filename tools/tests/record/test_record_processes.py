@@ -238,6 +238,14 @@ def test_very_many_generations_of_processes():
         compare(read_lines(trace), known(PAIR))
 
 
+def test_more_processes_than_files_that_may_be_open():
+    few = {"preexec_fn": lambda: resource.setrlimit(resource.RLIMIT_NOFILE, (128, 128))}
+    command, environment = [RECORD, "-o", "t.std", "./locks", "forks_away"], {**os.environ, "FORKS": "200"}
+    done = subprocess.run(command, stdin=subprocess.DEVNULL, stderr=subprocess.PIPE, env=environment, **few)
+    said = done.stderr.decode()
+    assert done.returncode == 0 and "goodlock-record: 199 processes: no events, no file\n" in said, said
+
+
 def test_processes_in_the_background():
     background = "./locks goes_to_background; ./locks goes_to_background; sleep 1"
     running = subprocess.Popen(
