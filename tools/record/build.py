@@ -6,8 +6,22 @@ SOURCES = os.path.dirname(os.path.realpath(__file__))
 TOOLS = os.path.dirname(SOURCES)
 
 
+BYTECODE_ROOM = 8 << 20  # for all modules together
+
+
 class BuildError(Exception):
     pass
+
+
+def has_bytecode_room():
+    """Whether Python may write the bytecode of these modules. It looks at nothing but whether it could write some of it: where there is
+    room for a half of a module alone it keeps that, and never gets past it again."""
+    import resource
+
+    limit = resource.getrlimit(resource.RLIMIT_FSIZE)[0]
+    disk = os.statvfs(TOOLS)
+    is_unlimited = limit == resource.RLIM_INFINITY or limit >= BYTECODE_ROOM
+    return is_unlimited and disk.f_bavail * disk.f_frsize >= BYTECODE_ROOM
 
 
 # In a checkout, what is linked from it is as new as it.

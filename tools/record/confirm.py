@@ -26,8 +26,12 @@ import traceback
 SOURCES = os.path.dirname(os.path.realpath(__file__))
 sys.path.insert(0, SOURCES)
 sys.pycache_prefix = os.path.join(os.path.dirname(SOURCES), "out", "python")
+sys.dont_write_bytecode = True
 
-from build import BuildError  # noqa: E402
+from build import BuildError, has_bytecode_room  # noqa: E402
+
+sys.dont_write_bytecode = not has_bytecode_room()
+
 from convert import (  # noqa: E402
     ConvertError,
     Sources,

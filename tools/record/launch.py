@@ -31,6 +31,11 @@ SOURCES = os.path.dirname(os.path.realpath(__file__))
 TOOLS = os.path.dirname(SOURCES)
 sys.path.insert(0, SOURCES)
 sys.pycache_prefix = os.path.join(TOOLS, "out", "python")
+sys.dont_write_bytecode = True
+
+from build import has_bytecode_room  # noqa: E402
+
+sys.dont_write_bytecode = not has_bytecode_room()
 
 VERSION = "0.1.0"
 STATUS_NO_EVENTS = 124

@@ -3,6 +3,7 @@
 import glob
 import os
 import platform
+import resource
 import shutil
 import signal
 import subprocess
@@ -76,6 +77,17 @@ def test_checkout_whose_path_has_a_space():
     # Of those that have come, other recordings' go with these.
     come = links_for_the_loader() - before
     wait_for(lambda: not any(map(os.path.lexists, come)), "the links to go: %s" % come)
+
+
+def test_first_use_with_a_limit_of_file_sizes():
+    """What Python would keep of the recorder's modules then is no half of one: later uses begin with it."""
+    shutil.copytree(TOOLS, "tools", ignore=shutil.ignore_patterns("tests", "python"))
+    command = ["tools/goodlock-record", "-o", "t.std", "./locks", "table"]
+    small = {"preexec_fn": lambda: resource.setrlimit(resource.RLIMIT_FSIZE, (1 << 15, resource.RLIM_INFINITY))}
+    for limits in (small, {}):
+        done = subprocess.run(command, stderr=subprocess.PIPE, **limits)
+        assert done.returncode == 0, done.stderr.decode()
+        os.unlink("t.std")
 
 
 def test_program_with_address_sanitizer():
