@@ -27,7 +27,8 @@ BOOST_MADE_ALONE = 'const char mark[] __attribute__((used)) = "_ZN5boost12shared
 PYTHON = '__attribute__((visibility("default"))) int Py_BytesMain(void) { return 0; }'
 
 LIBRARIES = (
-    "libjvm libpython3.11 libgomp libomp libglib-2.0 libQt5Core libQt6Core libabsl_synchronization libtbb libc++".split()
+    *"libjvm libpython3.11 libgomp libomp libglib-2.0".split(),
+    *"libQt5Core libQt6Core libabsl_synchronization libtbb libc++".split(),
 )
 
 
