@@ -42,6 +42,7 @@
 #include <bitset>
 #include <chrono>
 #include <cstdint>
+#include <exception>
 #include <mutex>
 #include <new>
 #include <pthread.h>
@@ -143,8 +144,13 @@ public:
         const uint32_t code = goodlock_open(number, threads, ring, &session);
         if (code != GOODLOCK_OK)
             return code;
-        has_started = true;
-        collector = std::thread(&world::collect, this);
+        has_started = true; // also where it fails: a number is given to one session
+        try {
+            collector = std::thread(&world::collect, this);
+        } catch (const std::exception &) { // there is no memory for it, or there are as many threads as there may be
+            goodlock_session_free(&session);
+            return GOODLOCK_MEMORY;
+        }
         open.store(true, std::memory_order_release);
         return code;
     }
@@ -571,7 +577,8 @@ private:
 } // namespace detail
 
 // Opens the session of the process, once: lanes for so many threads, each with a ring of so many notes. The calling thread is
-// T0 in reports. The number is the session's, where the process has others by goodlock_open.
+// T0 in reports. The number is the session's, where the process has others by goodlock_open. It answers as goodlock_open does;
+// where the collecting thread can't be had GOODLOCK_MEMORY, and the session is closed then: nothing is recorded.
 inline uint32_t start(uint32_t threads = 64, uint32_t ring = 4096, uint64_t number = 1) {
     const uint32_t code = detail::world::get().start(number, threads, ring, detail::mine::end);
     if (code == GOODLOCK_OK)

@@ -3,6 +3,7 @@
 //     library_wrapper locks       known reports of each kind of lock
 //     library_wrapper names       locks of one name, and of a name that tells such ones apart
 //     library_wrapper findings    reports of findings, so far and at the end
+//     library_wrapper unstarted   a session whose collecting thread is refused memory
 //     library_wrapper memory      locks that get no number, and a thread that gets no lane, as memory is refused
 //     library_wrapper thrown      locks whose name or place is refused memory by C++, which throws
 //     library_wrapper threads     many threads with small rings, of which some have no lane
@@ -254,6 +255,18 @@ static void thread_without_a_lane()
     thread.join();
 }
 
+// A session whose collecting thread there is no memory for is closed: what is locked then is as without one.
+static void unstarted()
+{
+    without_a_session();
+    granted = 0; // of what C++ asks for in start the collecting thread is the first
+    check(goodlock::start(24, 64) == GOODLOCK_MEMORY, "start without memory for the collecting thread");
+    granted = -1;
+    check(goodlock::start(24, 64) == GOODLOCK_MISUSE, "start once more");
+    without_a_session();
+    check(goodlock::finish().text.empty(), "a report without a session");
+}
+
 // Two locks that got no number aren't one lock: they aren't recorded, which is told. Others are.
 static void memory()
 {
@@ -458,6 +471,8 @@ int main(int count, char **words)
         names();
     else if (word == "findings")
         findings();
+    else if (word == "unstarted")
+        unstarted();
     else if (word == "memory")
         memory();
     else if (word == "thrown")
