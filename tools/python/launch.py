@@ -21,6 +21,11 @@ import sys
 HERE = os.path.dirname(os.path.realpath(__file__))
 sys.path.insert(0, os.path.join(os.path.dirname(HERE), "record"))
 sys.pycache_prefix = os.path.join(os.path.dirname(HERE), "out", "python")
+sys.dont_write_bytecode = True
+
+from build import has_bytecode_room  # noqa: E402
+
+sys.dont_write_bytecode = not has_bytecode_room()
 
 import launch as recording  # noqa: E402
 from options import VALUED, split_options  # noqa: E402

@@ -1,6 +1,7 @@
 """Processes that fork and start others, ways to start, and what is told."""
 
 import os
+import resource
 import shutil
 import subprocess
 
@@ -53,6 +54,25 @@ def test_pickled_name_of_the_locks():
     assert run.status == 0, run.said
     code = "import pickle, threading; print(pickle.load(open('name', 'rb')) is threading.Lock)"
     assert subprocess.run([INTERPRETER, "-c", code], stdout=subprocess.PIPE).stdout == b"True\n"
+
+
+def test_first_use_with_a_limit_of_file_sizes():
+    """What Python would keep of the recorder's modules then is no half of one: later uses begin with it."""
+    shutil.copytree(TOOLS, "tools", ignore=shutil.ignore_patterns("tests"))
+    shutil.rmtree("tools/out/python", ignore_errors=True)
+    command = [
+        "tools/goodlock-python",
+        "--python",
+        INTERPRETER,
+        "-o",
+        "t.std",
+        "-c",
+        "import threading; threading.Lock().acquire()",
+    ]
+    small = {"preexec_fn": lambda: resource.setrlimit(resource.RLIMIT_FSIZE, (1 << 15, resource.RLIM_INFINITY))}
+    for limits, status in ((small, NO_EVENTS), ({}, 0)):
+        done = subprocess.run(command, stderr=subprocess.PIPE, **limits)
+        assert done.returncode == status, done.stderr.decode()
 
 
 def test_child_process():
