@@ -60,6 +60,7 @@ def test_first_use_with_a_limit_of_file_sizes():
     """What Python would keep of the recorder's modules then is no half of one: later uses begin with it."""
     shutil.copytree(TOOLS, "tools", ignore=shutil.ignore_patterns("tests"))
     shutil.rmtree("tools/out/python", ignore_errors=True)
+    subprocess.run(["make", "-s", "-C", "tools"], check=True)
     command = [
         "tools/goodlock-python",
         "--python",

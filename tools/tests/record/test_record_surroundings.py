@@ -82,6 +82,7 @@ def test_checkout_whose_path_has_a_space():
 def test_first_use_with_a_limit_of_file_sizes():
     """What Python would keep of the recorder's modules then is no half of one: later uses begin with it."""
     shutil.copytree(TOOLS, "tools", ignore=shutil.ignore_patterns("tests", "python"))
+    subprocess.run(["make", "-s", "-C", "tools"], check=True)
     command = ["tools/goodlock-record", "-o", "t.std", "./locks", "table"]
     small = {"preexec_fn": lambda: resource.setrlimit(resource.RLIMIT_FSIZE, (1 << 15, resource.RLIM_INFINITY))}
     for limits in (small, {}):
