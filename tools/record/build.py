@@ -1,6 +1,7 @@
 """What is built of the C sources here: the preload libraries and the program that reads events."""
 
 import os
+import resource
 
 SOURCES = os.path.dirname(os.path.realpath(__file__))
 TOOLS = os.path.dirname(SOURCES)
@@ -14,10 +15,8 @@ class BuildError(Exception):
 
 
 def has_bytecode_room():
-    """Whether Python may write the bytecode of these modules. It looks at nothing but whether it could write some of it: where there is
-    room for a half of a module alone it keeps that, and never gets past it again."""
-    import resource
-
+    """Whether there is room for the bytecode of these modules. Python asks only whether it could write some of it: where half of a module
+    fits, it keeps that half, and each later use ends there."""
     limit = resource.getrlimit(resource.RLIMIT_FSIZE)[0]
     disk = os.statvfs(TOOLS)
     is_unlimited = limit == resource.RLIM_INFINITY or limit >= BYTECODE_ROOM

@@ -261,7 +261,7 @@ void confirm_before(struct thread *thread, uint64_t word, const void *lock, uint
 
 void confirm_after(struct thread *thread)
 {
-    struct wait *wait = wait_of(thread);
+    struct wait *wait = thread->wait;
     if (wait && wait->condition)
         waiter_drop(thread);
     if (wait)

@@ -214,6 +214,7 @@ def read_value(settings, word, value):
 
 
 def read_words(arguments, explanation, usage, flags, values):
+    """What these words ask for: options, and then the program and its own words."""
     settings = Settings()
     rest = list(arguments)
     while rest and rest[0].startswith("-"):
@@ -242,6 +243,7 @@ def read_words(arguments, explanation, usage, flags, values):
 
 
 def check_convert(settings, usage):
+    """Where a recording is converted, no program runs: what stands behind its directory would be passed over."""
     if settings.command and settings.convert is not None:
         raise Failed("--convert takes one directory, and runs no program\n%s" % usage)
 
