@@ -7,8 +7,8 @@
 //     library_wrapper memory      locks that get no number, and a thread that gets no lane, as memory is refused
 //     library_wrapper thrown      locks whose name or place is refused memory by C++, which throws
 //     library_wrapper threads     many threads with small rings, of which some have no lane
-//     library_wrapper ends        what is locked at a thread's end, by destructors of thread_locals and of pthread's
-//     keys library_wrapper leave       main returns without finish(), while a thread records
+//     library_wrapper ends        what is locked at a thread's end, by destructors of thread_locals and of keys
+//     library_wrapper leave       main returns without finish(), while a thread records
 //
 // Memory is refused by the linker's --wrap of malloc, calloc, realloc and aligned_alloc, and of operator new. What
 // isn't as it has to be is told; the last line is how many checks passed and failed.

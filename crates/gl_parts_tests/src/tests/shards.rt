@@ -252,7 +252,8 @@ fn counts(alloc: Global, tables: Vec<Table>, count: usize, wants: &[(u32, u32)])
     }
 }
 
-// Even locks and odd ones, and each third one: of these 6,667 are among the first 20,000.
+// Whether tables of even locks, of odd ones and of each third one are taken together: of these 6,667 are among the
+// first 20,000.
 fn are_merged(alloc: Global) -> Result<bool, Memory> {
     let tables = large_tables(alloc)?;
     let wants = &[(0, 4), (1, 6), (2, 5), (3, 4), (4, 5), (5, 6)];
