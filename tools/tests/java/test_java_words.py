@@ -7,7 +7,7 @@ import subprocess
 import zipfile
 
 import pytest
-from java_traces import JAVA_RECORD, MARKS, PAIR, program
+from java_traces import ASM, JAVA_RECORD, MARKS, PAIR, program
 from known_traces import NO_EVENTS, REFUSED, TOOLS, Run, compare, expand
 
 
@@ -94,6 +94,34 @@ def test_classes_of_the_jdk_that_the_recorder_uses():
     lines = run.lines()
     after = lines[next(at for at, line in enumerate(lines) if "|join(" in line) + 1 :]
     compare(after[:400000], expand(PAIR, MARKS) * 100000)
+
+
+def older_asm(folder):
+    """The libraries as ASM 9.1 has them: of the numbers of class file versions it has a name for that of Java 17 and for those before."""
+    os.mkdir(folder)
+    for name in ("asm.jar", "asm-tree.jar", "asm-commons.jar"):
+        with zipfile.ZipFile(os.path.join(os.path.dirname(ASM), name)) as here:
+            classes = {entry: here.read(entry) for entry in here.namelist()}
+        with zipfile.ZipFile(os.path.join(folder, name), "w") as archive:
+            for entry, data in classes.items():
+                is_changed = entry == "org/objectweb/asm/Opcodes.class"
+                archive.writestr(entry, re.sub(rb"(?<=\x00\x03)V(?=1[89]|[2-9]\d)", b"W", data) if is_changed else data)
+
+
+@pytest.mark.usefixtures("classes")
+def test_older_asm():
+    recorder = tools_in("older")
+    shutil.rmtree("older/out/java", ignore_errors=True)
+    older_asm("libraries")
+    with open("older/java/agent.py") as file:
+        source = file.read()
+    assert source.count('LIBRARIES = "/usr/share/java"') == 1
+    with open("older/java/agent.py", "w") as file:
+        file.write(source.replace('"/usr/share/java"', repr(os.path.abspath("libraries"))))
+    run = Run(recorder, program("monitors"))
+    assert run.status == 0, run.said
+    assert os.path.abspath("libraries") in run.said, "another ASM was used: %s" % run.said
+    compare(run.lines(), expand(PAIR, MARKS))
 
 
 @pytest.mark.usefixtures("classes")

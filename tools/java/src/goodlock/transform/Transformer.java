@@ -28,8 +28,8 @@ public final class Transformer implements ClassFileTransformer {
     private static final String THREAD = "java/lang/Thread";
     private static final String LEFT_AS_IT_IS = "%d classes couldn't be instrumented: their locks aren't recorded (the first: ";
 
-    /** The newest class files that this ASM reads. Newer ones differ in nothing that matters here but their number. */
-    private static final int NEWEST_READ = Opcodes.V19;
+    /** The newest class files that each ASM from 9.1 on reads. Newer ones differ in nothing that matters here but their number. */
+    private static final int NEWEST_READ = Opcodes.V17;
     private static final int VERSION_PLACE = 6;
 
     /** Classes of the JDK that are never instrumented: the recorder and the JVM's own work stand on them. */
