@@ -361,6 +361,7 @@ class Process:
         self.next_lock = parent.next_lock if parent else 1
         self.next_site = parent.next_site if parent else 1
         self.next_thread = 0
+        self.unjoined = set()  # numbers of threads for which the interpreter's end waits
         self.notes = {}
         self.full = False
         self.key = parent.key if parent else (0, 0)  # number and image of the recorded process that this is or comes of
@@ -665,15 +666,26 @@ class Recorder:
             words[place] = 0
         state.count_other()
 
-    def adopt(self, plan):
+    def adopt(self, plan, daemon):
         """The present thread is the planned one; False where it isn't: a greenlet runs on the thread that started it."""
         new, _, _, starter = plan
         if starter == get_ident():
             return False
         self.local.state = new
+        if not daemon:
+            self.process.unjoined.add(new.number)
         return True
 
     def joined(self, plan, frame):
+        self.joined_all([plan[0].number], frame)
+
+    def ended(self, frame):
+        """The interpreter's end has waited for all threads but daemons."""
+        unjoined = sorted(self.process.unjoined)
+        if unjoined:
+            self.joined_all(unjoined, frame)
+
+    def joined_all(self, numbers, frame):
         state = self.state()
         if state.busy or state.record is None:
             return
@@ -681,7 +693,9 @@ class Recorder:
         try:
             site = self.process.site_of(frame)
             state.end_segment()
-            state.store(JOIN | site << SITE_SHIFT | plan[0].number << OBJECT_SHIFT)
+            for number in numbers:
+                state.store(JOIN | site << SITE_SHIFT | number << OBJECT_SHIFT)
+            self.process.unjoined.difference_update(numbers)
         finally:
             state.busy = False
             if state.put_off:

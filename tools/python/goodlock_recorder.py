@@ -344,6 +344,7 @@ def semaphore_release_of(kind):
 # --- Threads ----------------------------------------------------------------------------------------------
 
 real_start, real_join, real_bootstrap = threading.Thread.start, threading.Thread.join, threading.Thread._bootstrap
+real_shutdown = threading._shutdown
 
 
 def routine_of(thread):
@@ -378,7 +379,7 @@ def thread_start(self):
 @functools.wraps(real_bootstrap)
 def thread_bootstrap(self):
     plan = getattr(self, "_goodlock_plan", None)
-    if plan is not None and not recorder.adopt(plan):
+    if plan is not None and not recorder.adopt(plan, self.daemon):
         recorder.note(GREENLETS_UNSEEN)
     real_bootstrap(self)
 
@@ -391,6 +392,13 @@ def thread_join(self, timeout=None):
         recorder.joined(plan, caller())
     else:
         recorder.did_not_take()
+
+
+@functools.wraps(real_shutdown)
+def threads_shutdown():
+    """What the interpreter calls when the script has ended, before exit handlers."""
+    real_shutdown()
+    recorder.ended(caller())
 
 
 # --- Start ------------------------------------------------------------------------------------------------
@@ -451,6 +459,7 @@ def stand_before_threading():
     threading.Thread.start = thread_start
     threading.Thread.join = thread_join
     threading.Thread._bootstrap = thread_bootstrap
+    threading._shutdown = threads_shutdown
 
 
 def start():

@@ -742,6 +742,20 @@ def called_at_exit():
 
 
 @program
+def threads_without_a_join():
+    """The interpreter's end waits for them, but for daemons; the exit handler comes after it."""
+    atexit.register(pair)
+    ended = queue.SimpleQueue()
+    threading.Thread(target=ended.put, args=(1,), daemon=True).start()  # @daemon_start
+    ended.get()
+    for _ in range(2):
+        threading.Thread(target=pair).start()  # @left_start
+    joined = threading.Thread(target=pair)
+    joined.start()  # @not_left_start
+    joined.join()  # @not_left_join
+
+
+@program
 def finalizer_at_the_end():
     """The interpreter has emptied modules when it runs."""
 

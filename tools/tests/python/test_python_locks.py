@@ -93,6 +93,7 @@ def test_waits_for_conditions():
         main|rel(Condition@@waits_made#1)|@wait_timed
         main|acq(Condition@@waits_made#1)|@wait_timed
         main|rel(Condition@@waits_made#1)|@waits
+        main|join(main.1:waits.signals)|?
         main.1:waits.signals|acq(Condition@@waits_made#1)|@signals
         main.1:waits.signals|rel(Condition@@waits_made#1)|@signals""",
     )

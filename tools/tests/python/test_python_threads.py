@@ -29,6 +29,20 @@ def test_threads_made_and_joined():
     compare(lines, expand("\n".join(text), MARKS))
 
 
+def test_threads_that_the_end_waits_for():
+    """Exit handlers come after all threads but daemons, joined or not."""
+    text = """
+        main|fork(main.1:SimpleQueue.put)|@daemon_start
+        main|fork(main.2:pair)|@left_start
+        main|fork(main.3:pair)|@left_start
+        main|fork(main.4:pair)|@not_left_start
+        main|join(main.4:pair)|@not_left_join
+        main|join(main.2:pair)|?
+        main|join(main.3:pair)|?"""
+    of_threads = "".join(PAIR.replace("main|", "main.%d:pair|" % number) for number in (2, 3, 4))
+    expect("threads_without_a_join", text + PAIR + of_threads)
+
+
 def test_thread_whose_start_is_interrupted():
     """It begins all the same, and is recorded."""
     run = record("interrupted_start")
