@@ -14,6 +14,8 @@ LIB := $(PREFIX)/lib/goodlock
 SHARE := $(PREFIX)/share
 DOC := $(SHARE)/doc/goodlock
 LIBRARY ?= prebuilt/libgoodlock.a
+# The same as seen from tools/: make takes no absolute path of a checkout in a folder whose name has blanks.
+ARCHIVE := $(if $(filter /%,$(LIBRARY)),,../)$(LIBRARY)
 LIBDIR ?= $(PREFIX)/lib
 # In goodlock.pc: so pkg-config --define-prefix finds both halves of what was moved, or was installed with DESTDIR.
 LIBDIR_BELOW_PREFIX = $(patsubst $(PREFIX)/%,$${prefix}/%,$(LIBDIR))
@@ -30,7 +32,7 @@ COMMANDS := goodlock $(RECORDERS) goodlock-predict-all goodlock-view
 INSTALL ?= install
 
 all: $(OUT)/goodlock man library
-	$(MAKE) -C tools $(if $(wildcard $(LIBRARY)),ARCHIVE="$(abspath $(LIBRARY))")
+	$(MAKE) -C tools $(if $(wildcard $(LIBRARY)),ARCHIVE="$(ARCHIVE)")
 	$(MAKE) -C tools/view
 
 $(OUT)/goodlock: $(PROGRAM) FORCE

@@ -86,6 +86,16 @@ def test_installing_twice_leaves_nothing_of_the_first(copy, tmp_path):
     assert not old.exists()
 
 
+def test_installing_from_and_to_folders_whose_names_have_blanks(copy, tmp_path):
+    checkout, place = tmp_path / "my own checkout", tmp_path / "my own place"
+    shutil.copytree(copy, checkout, symlinks=True, ignore=shutil.ignore_patterns("out"))
+    command = ("make", "-s", "-C", checkout, "install", f"DESTDIR={place}", "PREFIX=/usr", "PROGRAM=prebuilt/goodlock")
+    status, _, errors = run(*command)
+    assert status == 0, errors
+    built = {"goodlock_record.so", "goodlock_lines"} | ({"goodlock_live"} if archive() is not None else set())
+    assert built <= set(os.listdir(place / "usr" / "lib" / "goodlock" / "out"))
+
+
 def test_installing_without_a_program_fails(copy, tmp_path):
     status, _, errors = run("make", "-s", "-C", copy, "install", f"PREFIX={tmp_path / 'p'}", "PROGRAM=none/goodlock")
     assert status != 0
