@@ -70,6 +70,19 @@ def test_a_refused_trace_is_named_and_the_others_have_their_reports(path):
     assert set(reports("out")) == {"a.std.json", "c.std.json"}  # and no part of another
 
 
+def test_a_recording_whose_traces_are_not_written_is_named_once(path):
+    """As one of a recorder that was killed. A folder that only has such a name is one of traces."""
+    write("traces/one.std", TRACE)
+    for name in ("recording", "17.0.0", "18.0.0"):
+        write(f"traces/two.std.raw.77c80238b3c00689/{name}", "no trace\n")
+    write("traces/three.raw.d/three.std", CLEAN)
+    status, output, errors = predict_all(path, "traces")
+    told = "a recording, and no trace: goodlock-record --convert writes its traces"
+    assert (status, output) == (1, "")
+    assert errors == f"goodlock-predict-all: traces/two.std.raw.77c80238b3c00689: {told}\n"
+    assert set(reports()) == {"traces/one.std.json", "traces/three.raw.d/three.std.json"}
+
+
 def test_a_trace_that_is_not_there_is_named(path):
     write("a.std", TRACE)
     status, _, errors = predict_all(path, "none.std", "a.std")
