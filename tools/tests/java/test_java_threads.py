@@ -9,6 +9,56 @@ from known_traces import compare, edges_of, expand
 
 pytestmark = pytest.mark.usefixtures("classes")
 
+# One thread joins another while the recorder's table of threads shows nothing, as for a moment where a third one makes it larger.
+GROWING = """import java.lang.reflect.Array;
+import java.lang.reflect.Field;
+
+public class Growing {
+    static volatile boolean ready, isLarger;
+
+    static Field field(Class<?> owner, String name) throws Exception {
+        Field field = owner.getDeclaredField(name);
+        field.setAccessible(true);
+        return field;
+    }
+
+    public static void main(String[] words) throws Exception {
+        Thread child = new Thread(() -> { }, "child");
+        child.start();
+        Thread joiner = new Thread(() -> join(child), "joiner");
+        joiner.start();
+        while (child.isAlive() || !ready) {
+            Thread.onSpinWait();
+        }
+        Object threads = field(Class.forName("goodlock.runtime.Recorder"), "THREADS").get(null);
+        Field table = field(threads.getClass(), "table");
+        synchronized (threads) {
+            Object whole = table.get(threads);
+            table.set(threads, Array.newInstance(whole.getClass().getComponentType(), Array.getLength(whole)));
+            isLarger = true;
+            while (joiner.isAlive() && joiner.getState() != Thread.State.BLOCKED) {
+                Thread.onSpinWait();
+            }
+            table.set(threads, whole);
+        }
+    }
+
+    static void join(Thread child) {
+        synchronized (Growing.class) {
+            ready = true;
+        }
+        while (!isLarger) {
+            Thread.onSpinWait();
+        }
+        try {
+            child.join();
+        } catch (InterruptedException never) {
+            throw new IllegalStateException(never);
+        }
+    }
+}
+"""
+
 
 def test_threads_made_and_joined():
     expect(
@@ -25,6 +75,14 @@ def test_threads_made_and_joined():
         main.1:Locks.lambda|fork(main.1.1:Locks$Worker)|@child_start
         main.1:Locks.lambda|join(main.1.1:Locks$Worker)|@child_join""",
     )
+
+
+def test_thread_joined_while_the_table_of_threads_grows():
+    compile_source("Growing", GROWING)
+    run = record(None, command=["java", QUICK, "-cp", "own", "Growing"])
+    assert run.status == 0, run.said
+    joins = [line.split("|")[:2] for line in run.lines() if "|join(" in line]
+    assert joins == [["main.2:joiner", "join(main.1:child)"]]
 
 
 def test_names_that_are_long():

@@ -477,6 +477,17 @@ public final class Recorder {
         }
     }
 
+    /** The entry of a thread that was started, or null. Who finds none while another thread adds one may have missed it. */
+    private static ThreadEntry startedEntry(Thread thread) {
+        ThreadEntry entry = THREADS.find(thread);
+        if (entry == null) {
+            synchronized (THREADS) {
+                entry = THREADS.find(thread);
+            }
+        }
+        return entry;
+    }
+
     /** After Thread.join with a Duration. */
     public static void joined(Object object, boolean ended, int site) {
         joined(object, site);
@@ -492,7 +503,7 @@ public final class Recorder {
         if (state.isOff()) {
             return;
         }
-        ThreadEntry entry = THREADS.find(thread);
+        ThreadEntry entry = startedEntry(thread);
         if (entry != null && !thread.isAlive() && entry.state.record != null) {
             state.join(at(state, site), entry.state.number);
         } else {
