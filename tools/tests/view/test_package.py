@@ -1,6 +1,8 @@
 """The package: it runs from a folder and as one file, without further packages."""
 
+import os
 import pathlib
+import resource
 import shutil
 import subprocess
 import sys
@@ -53,3 +55,36 @@ def test_the_same_package_makes_the_same_file(zipapp):
     zipapp.unlink()
     subprocess.run(["make", "-s", f"PYTHON={sys.executable}"], cwd=zipapp.parent.parent, check=True)
     assert zipapp.read_bytes() == first
+
+
+def viewed_in_a_copy(limit):
+    """Status and errors of the command on the example, in a copy of the tools, where files may become so large."""
+    environment = {name: value for name, value in os.environ.items() if not name.startswith("PYTHON")}
+    done = subprocess.run(
+        [sys.executable, "tools/goodlock-view", "r.json"],
+        capture_output=True,
+        env=environment,
+        preexec_fn=lambda: resource.setrlimit(resource.RLIMIT_FSIZE, (limit, resource.RLIM_INFINITY)),
+    )
+    return done.returncode, done.stderr
+
+
+def kept_bytecode():
+    return list(pathlib.Path("tools").glob("**/*.pyc"))
+
+
+def test_a_first_use_under_a_limit_of_file_sizes_leaves_no_half_of_the_bytecode():
+    """Python would keep what fits of a module, and each later use would end there."""
+    write("r.json", EXAMPLE)
+    for name in ("view", "record"):
+        shutil.copytree(TOP / "tools" / name, f"tools/{name}", ignore=shutil.ignore_patterns("out", "__pycache__"))
+    shutil.copy(TOOL, "tools")
+    assert viewed_in_a_copy(1 << 13) == (1, b"")
+    assert not kept_bytecode()
+    assert viewed_in_a_copy(resource.RLIM_INFINITY) == (1, b"")
+    assert kept_bytecode()  # as soon as there is room
+    for path in kept_bytecode():
+        path.unlink()
+    shutil.rmtree("tools/record")
+    assert viewed_in_a_copy(resource.RLIM_INFINITY) == (1, b"")
+    assert not kept_bytecode()  # nobody says whether there is room
