@@ -17,8 +17,9 @@ DEBUG_FILES = "/usr/lib/debug"
 
 # Sources of the C++ library: what is inlined from them isn't the program's own line.
 WRAPPER_SOURCE = re.compile(r"/c\+\+/(v1|\d+(\.\d+)*)/|libstdc\+\+-v3/|/gthr-[a-z]+\.h$")
-# Names of Python's that say nothing without a directory.
+# Names of Python's that say nothing without a directory, and the directories that have its own modules and those that are installed.
 PACKAGE_FILES = ("__init__.py", "__main__.py")
+INSTALLED = re.compile(r"python3\.\d+t?|(site|dist)-packages")
 # What stands in a readable name as one mark: an operator with such marks, the name of what has none, or any other mark.
 PARTS = re.compile(r"\boperator(?:\(\)|<=>|->\*?|<<=?|>>=?|[<>]=?)|\(anonymous namespace\)|.")
 OPERATOR = re.compile(r"\boperator((?:<<|>>|->|<|>)[=*]?)")
@@ -238,6 +239,14 @@ def is_wrapper_source(path):
     return WRAPPER_SOURCE.search(path) is not None
 
 
+def least_length(parts):
+    """How many parts of a path its short name has at least: a file of Python's that is installed has its package's directories."""
+    if not parts or not parts[-1].endswith(".py"):
+        return 1
+    packages = [place for place, part in enumerate(parts, 1) if INSTALLED.fullmatch(part)]
+    return len(parts) - packages[-1] if packages else 1 + (parts[-1] in PACKAGE_FILES)
+
+
 def short_paths(paths):
     """A short name for each path: its last part, with as many parts before it as tell it from the others."""
     parts = {path: [p for p in path.split("/") if p not in ("", ".")] for path in paths}
@@ -251,7 +260,7 @@ def short_paths(paths):
         waiting = []
         for name, group in groups.items():
             whole = all(len(parts[p]) <= length for p in group)
-            if whole or len(group) == 1 and name not in PACKAGE_FILES:
+            if whole or len(group) == 1 and length >= least_length(parts[group[0]]):
                 for path in group:
                     short[path] = name
             else:

@@ -1,5 +1,6 @@
 """Threads and their names; repeats, which are left out; and the places of events."""
 
+import os
 import re
 
 import pytest
@@ -101,7 +102,7 @@ def test_pools_own_locks():
     """The lock of all pools has its own place, as nobody called for it. The semaphore of each one is none of the program's."""
     run = record("pool")
     (place,) = set(re.findall(r"\(Lock@(.*)#1\)", "\n".join(run.lines()))) - {MARKS["a"], MARKS["b"]}
-    assert re.fullmatch(r"thread\.py:\d+", place), place
+    assert re.fullmatch(r"concurrent/futures/thread\.py:\d+", place), place
     assert "semaphores" not in run.said, run.said
 
 
@@ -158,6 +159,31 @@ def test_names_that_are_long():
     for thread in (name, "main.2:short!?"):
         text += "\nmain|fork(%s)|@long_start\nmain|join(%s)|@long_join" % (thread, thread)
     expect("long_names", text + PAIR.replace("main|", name + "|") + PAIR.replace("main|", "main.2:short!?|"))
+
+
+PACKAGE = """import threading
+lock = threading.Lock()
+def take():
+    with lock:
+        pass
+"""
+
+
+@pytest.mark.parametrize("installed", ["lib/python3/dist-packages", "lib/python3.11/site-packages", "lib/python3.11"])
+def test_files_of_installed_packages(installed):
+    """They are named from the package on: a file of the program's own may have the same last name."""
+    os.makedirs(installed + "/pool/inner")
+    for name in ("base.py", "inner/__init__.py"):
+        with open("%s/pool/%s" % (installed, name), "w") as file:
+            file.write(PACKAGE)
+    with open("main.py", "w") as file:
+        file.write("import pool.base\nimport pool.inner\npool.base.take()\npool.inner.take()\n")
+    environment = {**os.environ, "PYTHONPATH": installed}
+    run = Run(PYTHON_RECORD, ["main.py"], ["--python", INTERPRETER], environment=environment)
+    assert run.status == 0, run.said
+    names = ["pool/base.py", "pool/inner/__init__.py"]
+    events = [(word, name, name) for name in names for word in ("acq", "rel")]
+    compare(run.lines(), ["main|%s(Lock@%s:2#1)|%s:4" % event for event in events])
 
 
 @pytest.mark.parametrize("frames, places", [("1", "of?two.py:4"), ("2", "of?two.py:4<of?two.py:6")])
