@@ -65,6 +65,22 @@ def test_the_longest_end_of_the_path_decides():
     assert marked("p.html") == [[("↓ held since here and wanted here", "1", "of the top")]]
 
 
+def test_what_is_installed_below_the_directory_gives_way_to_sources():
+    """As a Python environment in a checkout, which has files of any name; a place in it is told with its package."""
+    write("src/app/base.py", "of the program\n")
+    write("src/.venv/lib/python3.11/site-packages/pool/base.py", "of a package\n")
+    page_with_source("base.py:1", "pool/base.py:1", "1", "2")
+    assert marked("p.html") == [
+        [("↓ held since here", "1", "of the program")],
+        [("↓ wanted here", "1", "of a package")],
+    ]
+    write("src/app/web/base.py", "of the program too\n")
+    write("src/.venv/lib/python3/dist-packages/only.py", "of a package\n")
+    text = page_with_source("base.py:1", "only.py:1", "1", "2")
+    assert "base.py: 2 files fit equally well." in text
+    assert marked("p.html") == [[("↓ wanted here", "1", "of a package")]]
+
+
 def test_nothing_outside_of_the_directory_is_read():
     write("secret.c", "SECRET\n")
     write("outside/deep.c", "SECRET\n")

@@ -12,6 +12,7 @@ from .functions import Functions
 from .places import Frame, frames_of
 
 _VERSION_CONTROL = (b".git", b".hg", b".svn")
+_INSTALLED = {b"site-packages", b"dist-packages"}  # what a Python environment has, as one in the checkout
 
 
 class SourceLine(NamedTuple):
@@ -72,9 +73,13 @@ class Sources:
                 paths.append(path)
         if not paths:
             return None, "no such file below the source directory"
+        paths = [path for path in paths if not self._is_installed(path)] or paths
         if len(paths) > 1:
             return None, f"{len(paths)} files fit equally well"
         return os.path.relpath(paths[0], self._root), ""
+
+    def _is_installed(self, path: bytes) -> bool:
+        return not _INSTALLED.isdisjoint(os.path.relpath(path, self._root).split(b"/"))
 
     def read(self, path: bytes) -> list[bytes] | None:
         """The lines of a file that `find` gave; None where it can't be read or is too large."""
