@@ -121,7 +121,7 @@ static int guards_from(void *library)
 void guards_start(void)
 {
     guards_from(RTLD_NEXT);
-    dlerror();
+    faults_forget();
 }
 
 static void guards_find(void)

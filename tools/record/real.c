@@ -66,6 +66,12 @@ static void watcher_find(struct real_functions *all)
     memcpy(all->look_back, found[1], sizeof found[1]);
 }
 
+void faults_forget(void)
+{
+    dlerror();
+    dlerror();
+}
+
 int real_find(void)
 {
     if (real_found || finding)
@@ -95,7 +101,7 @@ int real_find(void)
     function = dlsym(RTLD_NEXT, "pthread_attr_getsigmask_np");
     all.pthread_attr_getsigmask_np = (int (*)(const pthread_attr_t *, sigset_t *))function;
     watcher_find(&all);
-    dlerror(); /* what isn't there is no fault of the program's */
+    faults_forget();
     real = all;
     real_found = 1;
     finding = 0;

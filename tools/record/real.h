@@ -102,6 +102,10 @@ extern void *real_vfork, *real_clone;
  * is called that does nothing. */
 int real_find(void);
 
+/* What isn't there is no fault of the program's. To be told of it once isn't enough: up to the second time the C
+ * library keeps its text, which a leak checker finds where the first thread ends before the others. */
+void faults_forget(void);
+
 #pragma GCC visibility pop
 
 #endif

@@ -970,6 +970,11 @@ static void first_thread_ends(void)
     ends_before(runs_on);
 }
 
+static void first_thread_ends_before_the_program(void)
+{
+    ends_before(reads_on);
+}
+
 static void first_thread_ends_in_background(void)
 {
     if (fork() == 0)
@@ -1150,7 +1155,8 @@ static const struct {
     {"confined", confined}, {"no_files", no_files}, {"many_threads", many_threads}, {"forks", forks},
     {"parent_goes_on", parent_goes_on}, {"raw_fork", raw_fork}, {"forks_in_handler", forks_in_handler}, {"changes_root", changes_root}, {"executes", executes}, {"clears_environment", clears_environment},
     {"goes_to_background", goes_to_background}, {"forks_away", forks_away}, {"first_thread_ends", first_thread_ends},
-    {"first_thread_ends_in_background", first_thread_ends_in_background}, {"waits_for_signal", waits_for_signal}, {"frames", frames}, {"frames_vary", frames_vary},
+    {"first_thread_ends_in_background", first_thread_ends_in_background},
+    {"first_thread_ends_before_the_program", first_thread_ends_before_the_program}, {"waits_for_signal", waits_for_signal}, {"frames", frames}, {"frames_vary", frames_vary},
     {"table", table}, {"nothing", nothing},
 };
 

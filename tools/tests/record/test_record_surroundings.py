@@ -106,6 +106,18 @@ def test_fault_that_address_sanitizer_tells_of():
     assert run.status == 1 and len(run.lines()) == 2, run.said
 
 
+def test_leak_checker_tells_nothing_of_the_recorder():
+    """Where the first thread ends before the others, what the C library keeps of a fault for it counts as leaked."""
+    build_or_skip("LeakSanitizer", "gcc", ["-fsanitize=leak"], "locks.c", "locks-leak")
+    words = ["./locks-leak", "first_thread_ends_before_the_program"]
+    plain = subprocess.run(words, stdin=subprocess.DEVNULL, stdout=subprocess.PIPE, stderr=subprocess.PIPE)
+    if plain.returncode != 0:
+        pytest.skip("LeakSanitizer doesn't run here")
+    run = record(*words)
+    assert run.status == 0 and "LeakSanitizer" not in run.said, run.said
+    assert len(run.lines()) == 7, str(run.lines())
+
+
 def record_with_thread_sanitizer(compiler, flags, source, *words):
     """The recording of a program that this compiler gave its ThreadSanitizer, called with these words."""
     build_or_skip("ThreadSanitizer of %s" % compiler, compiler, ["-fsanitize=thread", *flags], source, "sanitized")
