@@ -41,7 +41,7 @@ from convert import (  # noqa: E402
     take_name,
     without_parameters,
 )
-from family import Family, adopt_orphans, send_signal  # noqa: E402
+from family import Family, adopt_orphans, script_command, send_signal  # noqa: E402
 from findings import ReportError, read_findings  # noqa: E402
 from launch import (  # noqa: E402
     VERSION,
@@ -264,6 +264,18 @@ class Places:
 # --- A run ------------------------------------------------------------------------------------------
 
 
+def started(command, environment):
+    """The program, which nobody hears."""
+    quiet = subprocess.DEVNULL
+    try:
+        return subprocess.Popen(command, env=environment, stdin=quiet, stdout=quiet, stderr=quiet)
+    except OSError as error:
+        script = script_command(command, error)
+        if script is None:
+            raise
+        return subprocess.Popen(script, env=environment, stdin=quiet, stdout=quiet, stderr=quiet)
+
+
 class Run:
     """One run of the program."""
 
@@ -279,8 +291,7 @@ class Run:
         self.cycle = []
         self.in_time = True
         self.limit = time.monotonic() + settings.seconds
-        quiet = subprocess.DEVNULL
-        self.program = subprocess.Popen(settings.command, env=environment, stdin=quiet, stdout=quiet, stderr=quiet)
+        self.program = started(settings.command, environment)
         try:
             self.watch()
         finally:

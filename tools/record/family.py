@@ -1,10 +1,12 @@
 """The processes that a recording waits for: what the program starts, also what outlives it."""
 
+import errno
 import os
 import signal
 import time
 
 from recording import living_thread, maps_file, names_in_proc
+from tool import find_tool
 
 PR_SET_CHILD_SUBREAPER = 36
 FORWARDED = (
@@ -23,6 +25,8 @@ FROM_KERNEL = 128
 LOOK = 0.5
 MOMENT = 0.01
 BEGIN_LIMIT = 2
+SHELL = "/bin/sh"
+HEAD_BYTES = 80  # of a file, by which it is known whether it is a text
 
 
 def adopt_orphans():
@@ -234,6 +238,28 @@ class Family:
                 self.hand_on(info.si_signo)
 
 
+def script_command(command, error):
+    """Where the system couldn't execute a script, as its first line doesn't say who runs it (`#!`), the words by which sh does: so the C
+    library's execvp has it run, and a shell. None where that isn't why."""
+    if error.errno != errno.ENOEXEC:
+        return None
+    path = command[0] if "/" in command[0] else find_tool(command[0])
+    with open(path, "rb") as file:
+        is_text = b"\0" not in file.read(HEAD_BYTES)
+    return [SHELL, path, *command[1:]] if is_text else None
+
+
+def execute(command, environment):
+    """Becomes the program."""
+    try:
+        os.execvpe(command[0], command, environment)
+    except OSError as error:
+        script = script_command(command, error)
+        if script is None:
+            raise
+        os.execve(SHELL, script, environment)
+
+
 def start(command, environment, mask, ignored=()):
     """Starts the program, with the signals blocked that were so before, and those `ignored` that were so before Python came; its
     number, or the error that it wasn't started for, which comes over a pipe."""
@@ -246,7 +272,7 @@ def start(command, environment, mask, ignored=()):
                 if number not in ignored:
                     signal.signal(number, signal.SIG_DFL)
             signal.pthread_sigmask(signal.SIG_SETMASK, mask)
-            os.execvpe(command[0], command, environment)
+            execute(command, environment)
         except OSError as error:
             os.write(writing, b"%d" % error.errno)
         finally:

@@ -181,6 +181,15 @@ def test_hangup_that_is_ignored(predict, folder):
     assert running.returncode == NOT_SEEN and out == b"not seen in 1 try, 2 runs ended after 4 seconds\n", out.decode()
 
 
+def test_script_that_does_not_say_who_runs_it(predict):
+    """It is one for sh, as where a shell is asked for it."""
+    with open("script", "w") as file:
+        file.write('./cycles "$@"\n')
+    os.chmod("script", 0o755)
+    status, out, said = run([*PATIENTLY, predict("opposite"), "--", "./script", "opposite"])
+    assert status == DEADLOCKED and "main.1:one_way" in out, out + said
+
+
 def test_nothing_is_left(predict, folder):
     """After a deadlock, after tries in vain, and after a run that was ended."""
     deadlocks(predict, "opposite", 2)

@@ -25,6 +25,10 @@ FIRST_ENDED = """
     main.1:reads_on|rel(b)|@both_b_end
     main.1:reads_on|rel(a)|@both_a_end"""
 
+TABLE = """
+    main|acq(many+0x78)|@table
+    main|rel(many+0x78)|@table_end"""
+
 
 def test_forked_process():
     run = record("./locks", "forks")
@@ -180,14 +184,29 @@ def test_children_of_a_shell():
     assert "no events, no file" in run.said, run.said
     traces = sorted(run.lines(name[len("t.std") :]) for name in files)
     compare(traces[0], known(PAIR))
-    compare(
-        traces[1],
-        known(
-            """
-        main|acq(many+0x78)|@table
-        main|rel(many+0x78)|@table_end"""
-        ),
-    )
+    compare(traces[1], known(TABLE))
+
+
+def executable(name, content):
+    with open(name, "wb") as file:
+        file.write(content)
+    os.chmod(name, 0o755)
+
+
+@pytest.mark.parametrize("name", ["./own-script", "own-script"], ids=["by its path", "by the search path"])
+def test_script_that_does_not_say_who_runs_it(name):
+    """It is one for sh, as where a shell is asked for it: with its own words and its own status."""
+    executable("own-script", b'./locks "$@"\nexit 3\n')
+    environment = {**os.environ, "PATH": os.getcwd() + ":" + os.environ["PATH"]}
+    run = record(name, "table", environment=environment)
+    assert run.status == 3 and len(run.files()) == 1, run.said
+    compare(run.lines(run.files()[0][len("t.std") :]), known(TABLE))
+
+
+def test_file_that_no_system_executes():
+    executable("bytes", b"no program\0")
+    run = record("./bytes")
+    assert run.status == 126 and "./bytes: Exec format error" in run.said, run.said
 
 
 def test_many_processes_without_events_are_counted():
@@ -382,7 +401,7 @@ def test_process_in_the_background_without_proc(options):
     assert b", which runs on\n" in done.stderr and b": 2 events" in done.stderr, done.stderr.decode()
     if not options:
         (written,) = (name for name in os.listdir(".") if name.startswith("t.std"))
-        compare(read_lines(written), known("main|acq(many+0x78)|@table\nmain|rel(many+0x78)|@table_end"))
+        compare(read_lines(written), known(TABLE))
 
 
 def test_program_that_changes_its_root():
