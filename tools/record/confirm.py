@@ -323,8 +323,7 @@ class Run:
             members = self.members()
             if not members:
                 break
-            for process in members:
-                send_signal(process, signal.SIGKILL, self.members)
+            send_signal(members, signal.SIGKILL, self.members)
             self.family.reap()
             time.sleep(0.01)
         self.family.reap()

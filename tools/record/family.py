@@ -26,6 +26,7 @@ LOOK = 0.5
 MOMENT = 0.01
 BEGIN_LIMIT = 2
 SHELL = "/bin/sh"
+HELD_MOST = 64  # how many processes are held fast at once
 HEAD_BYTES = 80  # of a file, by which it is known whether it is a text
 
 
@@ -116,19 +117,29 @@ def told_to_run_on(processes):
     return "process %s, which runs on" % numbers if len(processes) == 1 else "processes %s, which run on" % numbers
 
 
-def send_signal(process, number, members):
-    """To a process, held fast before it is looked at again whether it is among the members."""
-    try:
-        holder = os.pidfd_open(number_here(process) or 0)
-    except OSError:
-        return
-    try:
-        if process in members():
-            signal.pidfd_send_signal(holder, number)
-    except OSError:
-        pass
-    finally:
-        os.close(holder)
+def hold(processes):
+    """Holds living processes fast, by their numbers."""
+    holders = {}
+    for process in processes:
+        try:
+            holders[process] = os.pidfd_open(number_here(process) or 0)
+        except OSError:
+            continue
+    return holders
+
+
+def send_signal(processes, number, members):
+    """To processes, held fast before it is looked at again which of them are among the members: some at a time, as each takes a file, and
+    a look goes through all of /proc."""
+    for first in range(0, len(processes), HELD_MOST):
+        holders = hold(processes[first : first + HELD_MOST])
+        for process in holders.keys() & set(members()):
+            try:
+                signal.pidfd_send_signal(holders[process], number)
+            except OSError:
+                continue
+        for holder in holders.values():
+            os.close(holder)
 
 
 class Family:
@@ -207,8 +218,7 @@ class Family:
 
     def hand_on(self, number):
         """Sends a signal to the recorded processes, each held fast before it is looked at again."""
-        for process in self.recorded():
-            send_signal(process, number, self.recorded)
+        send_signal(self.recorded(), number, self.recorded)
 
     def wait_for_others(self):
         """Waits for the further processes, as those of a server that went into the background. A signal is handed on to

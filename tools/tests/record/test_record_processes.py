@@ -8,13 +8,18 @@ import shutil
 import signal
 import struct
 import subprocess
+import sys
 import tempfile
 import termios
 
 import pytest
 from c_programs import end, has_ended, raw_directories, raw_directory
 from c_traces import PAIR, convert, known, record
-from known_traces import LIMIT, NO_EVENTS, RECORD, REFUSED, compare, read_line, read_lines, start, wait_for
+from known_traces import LIMIT, NO_EVENTS, RECORD, REFUSED, TOOLS, compare, read_line, read_lines, start, wait_for
+
+sys.path.insert(0, os.path.join(TOOLS, "record"))
+
+from family import send_signal  # noqa: E402
 
 FIRST_ENDED = """
     main|fork(main.1:reads_on)|@first_fork
@@ -274,6 +279,29 @@ def test_processes_in_the_background():
     assert re.fullmatch(r"goodlock-record: waiting for processes \d+, \d+, which run on\n", said), said
     _, said = running.communicate(timeout=LIMIT)
     assert running.returncode == 0, said.decode()
+
+
+def test_signal_to_many_processes():
+    """Each is held fast before it is looked at again; but they are looked at together, as a look goes through all of /proc. Who is no
+    member any more, as where its number is another process's now, gets none."""
+    running = [subprocess.Popen(["sleep", "1000"]) for _ in range(40)]
+    numbers, looks = [process.pid for process in running], []
+
+    def members():
+        looks.append(len(os.listdir("/proc/self/fd")))
+        return numbers[1:]
+
+    try:
+        before = len(os.listdir("/proc/self/fd"))
+        send_signal(numbers, signal.SIGTERM, members)
+        assert len(os.listdir("/proc/self/fd")) == before, "files are left open"
+        assert looks == [before + 40], str(looks)
+        assert {process.wait(LIMIT) for process in running[1:]} == {-signal.SIGTERM}
+        assert running[0].poll() is None, "it was sent one"
+    finally:
+        for process in running:
+            process.kill()
+            process.wait()
 
 
 def test_process_in_the_background_whose_first_thread_has_ended():
