@@ -68,21 +68,23 @@ install-library: library
 	$(INSTALL) -m 644 library/examples/* "$(DESTDIR)$(DOC)/examples"
 
 install: all $(if $(wildcard $(LIBRARY)),install-library)
+	rm -rf "$(DESTDIR)$(LIB)"
 	$(INSTALL) -d "$(DESTDIR)$(BIN)" "$(DESTDIR)$(LIB)" "$(DESTDIR)$(DOC)" "$(DESTDIR)$(MAN)"
 	$(INSTALL) -d "$(DESTDIR)$(BASH_COMPLETIONS)" "$(DESTDIR)$(ZSH_COMPLETIONS)" "$(DESTDIR)$(FISH_COMPLETIONS)"
 	$(INSTALL) -m 755 $(OUT)/goodlock tools/goodlock-predict-all tools/view/out/goodlock-view "$(DESTDIR)$(BIN)"
-	rm -rf "$(DESTDIR)$(LIB)/record" "$(DESTDIR)$(LIB)/python" "$(DESTDIR)$(LIB)/out"
-	cp -pR tools/record tools/python $(RECORDERS:%=tools/%) tools/Makefile "$(DESTDIR)$(LIB)"
+	cp -R --preserve=timestamps tools/record tools/python $(RECORDERS:%=tools/%) tools/Makefile "$(DESTDIR)$(LIB)"
 	find "$(DESTDIR)$(LIB)" -name __pycache__ -prune -exec rm -rf {} +
 	$(INSTALL) -d "$(DESTDIR)$(LIB)/out"
-	find tools/out -maxdepth 1 -type f -exec cp -p {} "$(DESTDIR)$(LIB)/out" \;
+	find tools/out -maxdepth 1 -type f -exec cp --preserve=timestamps {} "$(DESTDIR)$(LIB)/out" \;
+	chmod -R u=rwX,go=rX "$(DESTDIR)$(LIB)"
 	for name in $(RECORDERS); do ln -sf ../lib/goodlock/$$name "$(DESTDIR)$(BIN)/$$name" || exit 1; done
 	find $(OUT)/man -name '*.1' -exec $(INSTALL) -m 644 {} "$(DESTDIR)$(MAN)" \;
 	for name in $(COMMANDS); do $(INSTALL) -m 644 tools/completions/goodlock.bash \
 	    "$(DESTDIR)$(BASH_COMPLETIONS)/$$name" || exit 1; done
 	$(INSTALL) -m 644 tools/completions/_goodlock "$(DESTDIR)$(ZSH_COMPLETIONS)"
 	for name in $(COMMANDS); do grep "^#\|^complete -c $$name " tools/completions/goodlock.fish \
-	    >"$(DESTDIR)$(FISH_COMPLETIONS)/$$name.fish" || exit 1; done
+	    >"$(DESTDIR)$(FISH_COMPLETIONS)/$$name.fish" && \
+	    chmod 644 "$(DESTDIR)$(FISH_COMPLETIONS)/$$name.fish" || exit 1; done
 	$(INSTALL) -m 644 README.md docs/*.md docs/*.json docs/*.png "$(DESTDIR)$(DOC)"
 
 uninstall:

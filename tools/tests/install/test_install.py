@@ -96,6 +96,24 @@ def test_installing_from_and_to_folders_whose_names_have_blanks(copy, tmp_path):
     assert built <= set(os.listdir(place / "usr" / "lib" / "goodlock" / "out"))
 
 
+def test_what_is_installed_is_everybodys_to_read_and_belongs_to_who_installs_it(copy, tmp_path):
+    """Whatever the masks of who installs it and of who made the checkout, and whoever has that."""
+    tree, place = tmp_path / "tree", tmp_path / "place"
+    shutil.copytree(copy, tree, symlinks=True)
+    for path in (tree, *tree.rglob("*")):
+        if not path.is_symlink():
+            path.chmod(path.stat().st_mode & 0o700)
+        if os.geteuid() == 0:
+            os.chown(path, 65534, 65534, follow_symlinks=False)
+    command = ("make", "-s", "-C", tree, "install", f"PREFIX={place}", "PROGRAM=prebuilt/goodlock")
+    assert run(*command, umask=0o077)[0] == 0
+    stats = {str(path): path.lstat() for path in place.rglob("*") if not path.is_symlink()}
+    assert len(stats) > 80
+    assert [path for path, stat in stats.items() if stat.st_mode & 0o444 != 0o444] == []
+    assert [path for path, stat in stats.items() if stat.st_mode & 0o100 and stat.st_mode & 0o011 != 0o011] == []
+    assert [path for path, stat in stats.items() if stat.st_uid != os.geteuid()] == []
+
+
 def test_installing_without_a_program_fails(copy, tmp_path):
     status, _, errors = run("make", "-s", "-C", copy, "install", f"PREFIX={tmp_path / 'p'}", "PROGRAM=none/goodlock")
     assert status != 0
