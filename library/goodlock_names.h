@@ -401,8 +401,7 @@ static inline uint32_t goodlock_names_open(uint32_t most, goodlock_names *names)
 {
     struct goodlock_names_table_ *table;
     uint32_t bits = 1;
-    size_t slots;
-    char *rest;
+    size_t slots, bytes;
     if (names->at)
         return GOODLOCK_MISUSE;
     if (most < 1 || most > GOODLOCK_NAMES_MOST_)
@@ -410,14 +409,11 @@ static inline uint32_t goodlock_names_open(uint32_t most, goodlock_names *names)
     while (UINT32_C(1) << bits < 2 * most)
         bits++;
     slots = GOODLOCK_NAMES_AS_(size_t, 1) << bits;
-    rest = GOODLOCK_NAMES_AS_(char *,
-                              calloc(1, sizeof *table + slots * (sizeof *table->names + 2 * sizeof *table->addresses) +
-                                            most * sizeof *table->numbered));
-    if (!rest)
+    bytes = slots * (sizeof *table->names + 2 * sizeof *table->addresses) + most * sizeof *table->numbered;
+    table = GOODLOCK_NAMES_AS_(struct goodlock_names_table_ *, calloc(1, sizeof *table + bytes));
+    if (!table)
         return GOODLOCK_MEMORY;
-    table = GOODLOCK_NAMES_POINTER_AS_(struct goodlock_names_table_ *, rest);
-    rest += sizeof *table;
-    table->addresses = GOODLOCK_NAMES_POINTER_AS_(struct goodlock_names_slot_ *, rest);
+    table->addresses = GOODLOCK_NAMES_POINTER_AS_(struct goodlock_names_slot_ *, table + 1);
     table->literals = table->addresses + slots;
     table->names = GOODLOCK_NAMES_POINTER_AS_(struct goodlock_names_entry_ **, table->literals + slots);
     table->numbered = table->names + slots;

@@ -45,7 +45,7 @@ FAULTS = TOP / "crates" / "gl_std" / "specs" / "Faults.antt"
 ARCHIVE = pathlib.Path(os.environ.get("LIBRARY") or TOP / "prebuilt" / "libgoodlock.a").resolve()
 STRICT = ["-Wall", "-Wextra", "-pedantic", "-Werror"]
 # What programs may have their own sources checked for, and with them the headers.
-STRICTER = {"c": ["-Wconversion", "-Wsign-conversion", "-Wshadow", "-Wcast-qual"]}
+STRICTER = {"c": ["-Wconversion", "-Wsign-conversion", "-Wshadow", "-Wcast-qual", "-Wcast-align"]}
 STRICTER["c++"] = [*STRICTER["c"], "-Wold-style-cast", "-Wzero-as-null-pointer-constant"]
 CPP_STANDARDS = ("c++11", "c++14", "c++17", "c++20", "c++2b")
 MODES = ("basic", "guarded", "full")
