@@ -5,6 +5,7 @@
 
 #include <dlfcn.h>
 #include <errno.h>
+#include <gnu/libc-version.h>
 #include <string.h>
 
 static int finding;
@@ -31,11 +32,39 @@ static int are_of_one_library(const void *one, const void *other)
     return dladdr(one, &place) && dladdr(other, &other_place) && place.dli_fbase == other_place.dli_fbase;
 }
 
+#ifdef __x86_64__
+
+/* The next function of this name that has to do with blocks. The library by which the C library's blocks are checked
+ * (libc_malloc_debug.so) has old versions of these alone, which dlsym passes over: it would give those of the C library
+ * itself, which end the program for a block that isn't theirs. */
+static void *next_of_blocks(const char *name)
+{
+    void *function = dlsym(RTLD_NEXT, name), *versioned = dlvsym(RTLD_NEXT, name, "GLIBC_2.2.5");
+    return versioned && are_of_one_library(function, (void *)gnu_get_libc_version) ? versioned : function;
+}
+
+#else
+
+static void *next_of_blocks(const char *name)
+{
+    return dlsym(RTLD_NEXT, name);
+}
+
+#endif
+
 /* The next function of this name, if it is of the same library as this one that frees blocks; else NULL. */
 static void *beside_free(void *frees, const char *name)
 {
-    void *function = dlsym(RTLD_NEXT, name);
+    void *function = next_of_blocks(name);
     return function && are_of_one_library(frees, function) ? function : NULL;
+}
+
+static void blocks_find(struct real_functions *all)
+{
+    all->free = (void (*)(void *))next_of_blocks("free");
+    all->realloc = (void *(*)(void *, size_t))next_of_blocks("realloc");
+    all->malloc_usable_size = (size_t(*)(void *))beside_free((void *)all->free, "malloc_usable_size");
+    all->owns = (int (*)(const volatile void *))beside_free((void *)all->free, "__sanitizer_get_ownership");
 }
 
 #ifdef __x86_64__
@@ -94,8 +123,7 @@ int real_find(void)
     if (timed_wait)
         all.pthread_cond_timedwait = (int (*)(pthread_cond_t *, pthread_mutex_t *, deadline_t))timed_wait;
 #endif
-    all.malloc_usable_size = (size_t(*)(void *))beside_free((void *)all.free, "malloc_usable_size");
-    all.owns = (int (*)(const volatile void *))beside_free((void *)all.free, "__sanitizer_get_ownership");
+    blocks_find(&all);
     real_vfork = dlsym(RTLD_NEXT, "vfork");
     real_clone = dlsym(RTLD_NEXT, "clone");
     function = dlsym(RTLD_NEXT, "pthread_attr_getsigmask_np");

@@ -1,7 +1,10 @@
 """Memory that is given back: a lock in it is at its end, and the next one there is another."""
 
 import os
+import platform
+import subprocess
 
+import pytest
 from c_traces import expect, known, record
 from known_traces import compare
 
@@ -22,16 +25,27 @@ def test_lock_in_freed_memory_is_at_its_end():
     )
 
 
+HELD = """
+    main|acq(mutex@@held#1)|@held
+    main|rel(mutex@@held#1)|@held
+    main|acq(b)|@held_b
+    main|rel(b)|@held_b_end"""
+
+
 def test_lock_that_is_held_in_freed_memory():
-    expect(
-        "freed_held",
-        """
-        main|acq(mutex@@held#1)|@held
-        main|rel(mutex@@held#1)|@held
-        main|acq(b)|@held_b
-        main|rel(b)|@held_b_end""",
-        "memory.c",
-    )
+    expect("freed_held", HELD, "memory.c")
+
+
+@pytest.mark.skipif(platform.machine() != "x86_64", reason="the versions of this machine's C library aren't asked for")
+def test_lock_in_memory_that_is_checked():
+    """By the library that the C library has for it: it ends a program where another one gives back what it has given."""
+    environment = {**os.environ, "LD_PRELOAD": "libc_malloc_debug.so.0", "MALLOC_CHECK_": "3"}
+    plain = subprocess.run(["./memory", "freed_held"], env=environment, stderr=subprocess.PIPE)
+    if plain.returncode != 0 or plain.stderr:
+        pytest.skip("the C library has none for it")
+    run = record("./memory", "freed_held", environment=environment)
+    assert run.status == 0, run.said
+    compare(run.lines(), known(HELD, "memory.c"))
 
 
 def uses(*numbers):
