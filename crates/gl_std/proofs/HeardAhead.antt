@@ -8,9 +8,10 @@ use Rattle.gl_io.specs.Positions.{Position}
 use Rattle.gl_io.specs.Reads.{HasRead}
 use Rattle.gl_std.specs.Heard.{HasHeard}
 use Rattle.gl_std.specs.LineReading.{HasGiven}
+use Rattle.gl_std.specs.Names.{NameLists}
 use Rattle.gl_std.specs.Pieces.{IsFaulty}
 use Rattle.gl_std.specs.Trace.{nothing}
-use Rattle.gl_std.specs.bodies.Ahead.{text_of, AreCut, AreShort, CanJudge, CanReadAhead, FailsPiece, GivesOn, HasGoneOn, HasReadOn, HasReadPieces, HasReadTo, HearsEnding, HearsFault, HearsPieces, HearsRest, IsStillAhead, OnlyJudges, ReadsAhead, TakesPiece}
+use Rattle.gl_std.specs.bodies.Ahead.{text_of, AreCut, AreRight, AreShort, CanJudge, CanReadAhead, FailsPiece, GivesOn, HasGoneOn, HasReadOn, HasReadPieces, HasReadTo, HearsEnding, HearsFault, HearsPieces, HearsRest, IsStillAhead, OnlyJudges, ReadsAhead, TakesPiece}
 use Rattle.gl_std.specs.bodies.Hearing.{Hears, HearsOn, IsReading}
 use Rattle.gl_std.specs.bodies.States.{left_of, IsFit, IsSound, Reaches, ReadsOn}
 use Rattle.gl_std.specs.declared.faults.ReadFault.{ReadFault}
@@ -144,6 +145,9 @@ no_piece_short pieces none = subst AreShort (sym none) (λ k d within. absurd (o
 
 pub no_piece_cut : (pieces : List Piece) → pieces ≡ [] → AreCut pieces
 no_piece_cut pieces none = subst AreCut (sym none) (λ k d within. absurd (omega (arith, within)))
+
+pub no_piece_right : (names : NameLists) (pieces : List Piece) → pieces ≡ [] → AreRight names pieces
+no_piece_right names pieces none = subst (AreRight names) (sym none) (λ k d within. absurd (omega (arith, within)))
 
 -- ---- a fault by its parts
 

@@ -1,9 +1,9 @@
 -- Lines by numbers in place of names.
-use Rattle.std.proofs.Common.{◌≡◌, ℕ, zero, suc, ◌+◌, ◌<◌, ◌≤◌, Bool, true, false, position, List, [], ◌∷◌, ◌++◌, length, map, take, replicate, Option, Some, None, Result, Ok, Err, get_or, refl, sym, ap, subst, ◌∙◌, length-append, add-zero, add-one, cond, inl, inr, arith}
-use Rattle.std.specs.Prelude.{slice_get, slice_set}
+use Rattle.std.proofs.Common.{◌≡◌, ℕ, zero, suc, ◌+◌, ◌<◌, ◌≤◌, Bool, true, false, position, List, [], ◌∷◌, ◌++◌, length, map, take, Option, Some, None, Result, Ok, Err, get_or, refl, sym, ap, subst, ◌∙◌, length-append, add-zero, add-one, cond, inl, inr, arith}
+use Rattle.std.specs.Prelude.{slice_get, slice_set, vec_len, OnOk}
 use Rattle.std.specs.Str.{bytes_eq}
-use Rattle.std.proofs.lemmas.Bool.{cases_eq}
-use Rattle.std.proofs.lemmas.List.{get_or_append_left, get_or-set_same, get_or-set_other, get_or-replicate, length-set, length-replicate}
+use Rattle.std.proofs.lemmas.Bool.{cases_eq, cases_lt}
+use Rattle.std.proofs.lemmas.List.{get_or_append_left, get_or-set_same, get_or-set_other, length-set}
 use Rattle.std.proofs.lemmas.Option.{get_or_from_slice_get, slice_get-get_or, slice_get_within}
 use Rattle.std.proofs.lemmas.List.Quantifiers.{position-Some}
 use Rattle.gl_event.specs.Bounds.{Bounds}
@@ -13,7 +13,7 @@ use Rattle.gl_std.specs.Line.{Operation, Shape, is_on_thread, shape_of}
 use Rattle.gl_std.specs.Line.Shape.{Call}
 use Rattle.gl_std.specs.Names.{NameLists}
 use Rattle.gl_std.specs.Trace.{after_call, after_line, after_shape, and_then, operands, read_from}
-use Rattle.gl_std.specs.bodies.Blocks.{after_shapes, named, shape_in, AreKnown, GoOn, HasTakenShapes, IsKnownOf, IsNumbered, TakesShapes}
+use Rattle.gl_std.specs.bodies.Blocks.{after_shapes, named, shape_in, AreKnown, GoOn, HasTakenShapes, IsKnownOf, IsKnownSoFar, IsNumbered, TakesShapes}
 use Rattle.gl_std.specs.bodies.Judgements.{AreApart, JudgesLine}
 use Rattle.gl_std.specs.bodies.Shown.{shown_operation}
 use Rattle.gl_std.specs.bodies.States.{HasJudged}
@@ -26,7 +26,7 @@ use Rattle.gl_std.specs.declared.names.Found.{Found}
 use Rattle.gl_std.specs.declared.numbered_line.NumberedLine.{NumberedLine}
 use Rattle.gl_std.specs.declared.numbered_line.NumberedLine.TheVariants.{Blank, Bad, Other, Call as NumberedCall}
 use Rattle.gl_std.specs.declared.trace.Trace.{Trace}
-use Rattle.gl_std.proofs.Growth.{IsFront-itself}
+use Rattle.gl_std.proofs.Growth.{IsFront-itself, IsFront-then}
 use Rattle.gl_std.proofs.Places.{position_at, same_name}
 use Rattle.gl_std.proofs.Shapes.{shape_of_apart}
 
@@ -65,6 +65,14 @@ front_length names later front = let longer = ap length front.1 ∙ length-appen
 
 pub go_on_itself : (names : NameLists) → GoOn names names
 go_on_itself names = record { threads = IsFront-itself names.threads; locks = IsFront-itself names.locks; locs = IsFront-itself names.locs }
+
+pub go_on_then : (old mid new : NameLists) → GoOn old mid → GoOn mid new → GoOn old new
+go_on_then old mid new one two =
+    record {
+      threads = IsFront-then old.threads mid.threads new.threads one.threads two.threads;
+      locks = IsFront-then old.locks mid.locks new.locks one.locks two.locks;
+      locs = IsFront-then old.locs mid.locs new.locs one.locs two.locs;
+    }
 
 -- ---- names that stand where their numbers are
 
@@ -169,15 +177,81 @@ known_of_later block old new known on are =
       all_locs = are.all_locs;
     }
 
+-- the numbers of names that were there stay known where a block gets names, if those have none yet
+known_on : (block later names : List (List ℕ)) (known : List (Option ℕ)) → IsFront block later → length known ≤ length block → AreKnown block names known → AreKnown later names known
+known_on block later names known front few are number found is =
+    let within = slice_get_within known number (Some found) is in
+    ap (λ name. position (bytes_eq name) names) (named_front block later number front (omega (arith, within, few))) ∙ are number found is
+
+pub right_on : (old new names : NameLists) (known : Known) → GoOn old new → IsKnownSoFar old names known → IsKnownSoFar new names known
+right_on old new names known on are =
+    record {
+      threads = known_on old.threads new.threads names.threads known.threads.items on.threads are.some_threads are.threads;
+      locks = known_on old.locks new.locks names.locks known.locks.items on.locks are.some_locks are.locks;
+      locs = known_on old.locs new.locs names.locs known.locs.items on.locs are.some_locs are.locs;
+      some_threads = let longer = front_length old.threads new.threads on.threads in omega (arith, longer, are.some_threads);
+      some_locks = let longer = front_length old.locks new.locks on.locks in omega (arith, longer, are.some_locks);
+      some_locs = let longer = front_length old.locs new.locs on.locs in omega (arith, longer, are.some_locs);
+    }
+
+-- and where the text gets names
+pub right_among : (block old new : NameLists) (known : Known) → GoOn old new → IsKnownSoFar block old known → IsKnownSoFar block new known
+right_among block old new known on are =
+    record {
+      threads = known_later block.threads old.threads new.threads known.threads.items on.threads are.threads;
+      locks = known_later block.locks old.locks new.locks known.locks.items on.locks are.locks;
+      locs = known_later block.locs old.locs new.locs known.locs.items on.locs are.locs;
+      some_threads = are.some_threads;
+      some_locks = are.some_locks;
+      some_locs = are.some_locs;
+    }
+
+-- where each name has its place, some have
+pub known_so_far : (block names : NameLists) (known : Known) → length known.threads.items ≡ vec_len known.threads → length known.locks.items ≡ vec_len known.locks → length known.locs.items ≡ vec_len known.locs → IsKnownOf block names known → IsKnownSoFar block names known
+known_so_far block names known threads locks locs are =
+    record {
+      threads = are.threads;
+      locks = are.locks;
+      locs = are.locs;
+      some_threads = omega (arith, threads, are.all_threads);
+      some_locks = omega (arith, locks, are.all_locks);
+      some_locs = omega (arith, locs, are.all_locs);
+    }
+
+pub if_ok_then : (r : Result (Unit {0}) ReadFault) (p q : Type 0) → (p → q) → OnOk r p → OnOk r q
+if_ok_then (Ok done) p q then is = then is
+if_ok_then (Err fault) p q then is = tt
+
 -- of none is a number known
-pub known_none : (block names : List (List ℕ)) (known : List (Option ℕ)) (n : ℕ) → known ≡ replicate n None → AreKnown block names known
-known_none block names known n is number found there =
+known_none : (block names : List (List ℕ)) (known : List (Option ℕ)) → known ≡ [] → AreKnown block names known
+known_none block names known none number found there =
     let within = slice_get_within known number (Some found) there in
-    let size = ap length is ∙ length-replicate n None in
-    absurd (none_some (sym (get_or_from_slice_get known number (Some found) None there) ∙ ap (λ l. get_or l number None) is ∙ get_or-replicate n number None None (omega (arith, within, size))))
+    let size = ap length none in
+    absurd (omega (arith, within, size))
+
+pub right_none : (block names : NameLists) (known : Known) → known.threads.items ≡ [] → known.locks.items ≡ [] → known.locs.items ≡ [] → IsKnownSoFar block names known
+right_none block names known threads locks locs =
+    record {
+      threads = known_none block.threads names.threads known.threads.items threads;
+      locks = known_none block.locks names.locks known.locks.items locks;
+      locs = known_none block.locs names.locs known.locs.items locs;
+      some_threads = let size = ap length threads in omega (arith, size);
+      some_locks = let size = ap length locks in omega (arith, size);
+      some_locs = let size = ap length locs in omega (arith, size);
+    }
+
+-- nor of those that get a place
+pub known_grown : (block names : List (List ℕ)) (known later : List (Option ℕ)) → ((k : ℕ) (d : Option ℕ) → k < length known → get_or later k d ≡ get_or known k d) → ((k : ℕ) (d : Option ℕ) → length known ≤ k → k < length later → get_or later k d ≡ None) → AreKnown block names known → AreKnown block names later
+known_grown block names known later same none are number found there =
+    let within = slice_get_within later number (Some found) there in
+    let stands = get_or_from_slice_get later number (Some found) None there in
+    elim (cases_lt number (length known)) [
+      | inl low ↦ are number found (slice_get-get_or known number None low ∙ ap (λ o. Some o) (sym (same number None low) ∙ stands))
+      | inr high ↦ absurd (some_none (sym stands ∙ none number None (omega (arith, high)) within))
+    ]
   where
-    none_some : Some found ≡ None → ⊥
-    none_some e = cc
+    some_none : Some found ≡ None → ⊥
+    some_none e = cc
 
 -- a number that was looked up is known
 pub known_set : (block names : List (List ℕ)) (known : List (Option ℕ)) (number : ℕ) (found : Option ℕ) → number < length known → found ≡ position (bytes_eq (named block number)) names → AreKnown block names known → AreKnown block names (slice_set known number found)

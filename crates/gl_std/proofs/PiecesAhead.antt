@@ -1,7 +1,7 @@
 -- Pieces that are read and cut before they are judged.
-use Rattle.std.proofs.Common.{◌≡◌, ℕ, zero, suc, ◌+◌, ◌<◌, ◌≤◌, ◌⊎◌, inl, inr, ◌||◌, ◌&&◌, Bool, true, false, cond, eqb, List, [], ◌∷◌, ◌++◌, length, map, take, drop, Contains, Some, All, Result, Ok, Err, get_or, refl, sym, ap, subst, ◌∙◌, append_assoc, length-append, add-zero, add-one, arith}
+use Rattle.std.proofs.Common.{◌≡◌, ℕ, zero, suc, ◌+◌, ◌<◌, ◌≤◌, ◌⊎◌, inl, inr, ◌||◌, ◌&&◌, Bool, true, false, cond, eqb, List, [], ◌∷◌, ◌++◌, length, map, take, drop, Contains, Option, Some, None, All, Result, Ok, Err, get_or, refl, sym, ap, subst, ◌∙◌, append_assoc, length-append, add-zero, add-one, arith}
 use Rattle.std.specs.List.{onto_first}
-use Rattle.std.specs.Option.{option_map_or}
+use Rattle.std.specs.Option.{option_map_or, IfSome}
 use Rattle.std.proofs.lemmas.Bool.{false≢true}
 use Rattle.std.proofs.lemmas.List.{length-drop}
 use Rattle.std.proofs.Math.Nat.{mul-le-mul_right}
@@ -16,12 +16,14 @@ use Rattle.gl_std.specs.LineReading.{TELLING, HasGiven}
 use Rattle.gl_std.specs.Lines.{LF, CR, begins_with, ended_lines, lines}
 use Rattle.gl_std.specs.Pieces.{IsFaulty, IsTold}
 use Rattle.gl_std.specs.Trace.{and_then, read_from, trace_of}
-use Rattle.gl_std.specs.bodies.Ahead.{bytes_of, text_of, FailsPiece, GivesOn, HasReadOn, IsShort, JudgesText, OnlyJudges, TakesPiece}
-use Rattle.gl_std.specs.bodies.Blocks.{after_shapes, between, FailsShapes, TakesShapes}
+use Rattle.gl_std.specs.bodies.Ahead.{bytes_of, text_of, AreRight, FailsPiece, GivesOn, HasReadOn, IsRightPiece, IsShort, JudgesText, OnlyJudges, TakesPiece}
+use Rattle.gl_std.specs.bodies.Blocks.{after_shapes, between, FailsShapes, GoOn, IsRight, TakesShapes}
 use Rattle.gl_std.specs.bodies.Taking.{HasEndedLine}
 use Rattle.gl_std.specs.bodies.Telling.{with_judged}
 use Rattle.gl_std.specs.bodies.States.{left_of, HasJudged, Reaches}
 use Rattle.gl_std.specs.bodies.Stepping.{HasFilledBuffer, OnlyReads}
+use Rattle.gl_std.specs.Names.{NameLists}
+use Rattle.gl_std.specs.declared.block.Block.{Block}
 use Rattle.gl_std.specs.declared.faults.ReadFault.{ReadFault}
 use Rattle.gl_std.specs.declared.faults.ReadFault.TheVariants.{Line}
 use Rattle.gl_std.specs.declared.faults.StdKind.{StdKind}
@@ -34,7 +36,7 @@ use Rattle.gl_std.specs.declared.line_reader.pieces.Ending.TheVariants.{More, En
 use Rattle.gl_std.specs.declared.line_reader.pieces.Piece.{Piece}
 use Rattle.gl_std.specs.declared.trace.Trace.{Trace}
 use Rattle.gl_std.proofs.LinesOfTexts.{holds_lf, lf_free, lines-after_line}
-use Rattle.gl_std.proofs.NumberedLines.{after_shapes-lines}
+use Rattle.gl_std.proofs.NumberedLines.{after_shapes-lines, go_on_then, right_among}
 use Rattle.gl_std.proofs.PieceByPiece.{ended-lf, faulty_more, first_end, with_end}
 use Rattle.gl_std.proofs.LineByLine.{append_nil, drop_none, few_kept, reached_more}
 use Rattle.gl_std.proofs.WithinLimits.{read_from-append}
@@ -367,6 +369,7 @@ only_next old mid new n m k is one two = record {
   few = two.few;
   same_limits = two.same_limits ∙ one.same_limits;
   lines = omega (arith, one.lines, two.lines, is);
+  grows = go_on_then old.judge.names mid.judge.names new.judge.names one.grows two.grows;
 }
 
 -- and what comes last
@@ -391,3 +394,23 @@ text_alike (p ∷ old) (q ∷ new) size same =
     let first = same 0 p (omega arith) in
     let rest = text_alike old new (omega (arith, size)) (λ k d within. same (suc k) d (omega (arith, within))) in
     (λ i. first i ++ rest i)
+
+-- ---- what blocks know of names
+
+-- it stays right where names are added
+pub right_piece : (old new : NameLists) (piece : Piece) → GoOn old new → IsRightPiece old piece → IsRightPiece new piece
+right_piece old new piece on right = by piece.block right
+  where
+    by : (block : Option Block) → IfSome block (IsRight old) → IfSome block (IsRight new)
+    by None right = tt
+    by (Some block) right = right_among block.names old new block.known on right
+
+pub right_pieces : (old new : NameLists) (pieces : List Piece) → GoOn old new → AreRight old pieces → AreRight new pieces
+right_pieces old new pieces on right k d within = right_piece old new (get_or pieces k d) on (right k d within)
+
+-- and where a piece is added
+pub right_push : (names : NameLists) (pieces : List Piece) (piece : Piece) → AreRight names pieces → IsRightPiece names piece → AreRight names (pieces ++ piece ∷ [])
+right_push names [] piece are is zero d within = is
+right_push names [] piece are is (suc k) d within = absurd (omega (arith, within))
+right_push names (p ∷ pieces) piece are is zero d within = are 0 d (omega arith)
+right_push names (p ∷ pieces) piece are is (suc k) d within = right_push names pieces piece (λ j d low. are (suc j) d (omega (arith, low))) is k d (omega (arith, within))

@@ -1,13 +1,14 @@
 //! The lines of a piece of a text, each taken alone, with numbers of the piece's own for names.
-ghost use Rattle.std.specs.Prelude.{◌≡◌, ◌+◌, ◌≤◌, [], ◌∷◌, ◌++◌, length, map, vec_len, IfOk, OnOk};
+ghost use Rattle.std.specs.Prelude.{◌≡◌, ◌+◌, ◌≤◌, [], ◌∷◌, ◌++◌, length, map, vec_len, IfOk, IfSome, OnOk};
 ghost use Rattle.gl_std.specs.declared.block.TheConstants.{LONGEST};
 ghost use Rattle.gl_std.specs.Line.{shape_of};
 ghost use Rattle.gl_std.specs.Lines.{lines};
-ghost use Rattle.gl_std.specs.bodies.Blocks.{shapes_of, AreFew, AreNumbered, IsBlockOf};
+ghost use Rattle.gl_std.specs.Names.{NameLists};
+ghost use Rattle.gl_std.specs.bodies.Blocks.{shapes_of, AreFew, AreNumbered, HasFewNames, IsBlockOf, IsRight};
 
 use crate::line::{Shape, cut, shape_of};
 use crate::line_ends::{LF, ended_lines, next_line};
-use crate::names::Names;
+use crate::names::{Known, Names};
 use crate::numbered_line::NumberedLine;
 use crate::seed::Seed;
 use gl_io::CHUNK;
@@ -17,53 +18,86 @@ use std::alloc::{AllocError, Global};
 /// that it stays near the processor.
 pub(crate) const LONGEST: usize = 8 * CHUNK;
 
-/// What the lines of a piece of a text say, in order. Names have numbers from 0 in order of first mention
-/// in the piece.
+// So many names a block may have before its lines are added. With more it begins anew, so that what blocks keep
+// stays within bounds.
+pub(crate) const MOST_NAMES: u64 = 131_072;
+
+/// What the lines of a piece of a text say, in order. Names have numbers from 0 in order of first mention in the
+/// pieces that were cut with the same names: a block is made in the memory of one that was judged, and goes on with
+/// its names, so that those which come again and again are added, and looked up in the text, once.
 pub(crate) struct Block {
     pub(crate) names: Names,
     pub(crate) lines: Vec<NumberedLine>,
+    /// The numbers that its names have in the text, of those that were looked up.
+    pub(crate) known: Known,
+    // So many names there were before its lines.
+    before: u64,
 }
 
 // Written out, so that it is proved once: a derived drop is proved again wherever a block is let go.
 impl Drop for Block {
     fn drop(self) {
-        let Block { names, lines } = self;
+        let Block {
+            names,
+            lines,
+            known,
+            before: _,
+        } = self;
     }
 }
 
 impl Block {
-    /// No lines.
+    /// No lines, and no names.
     fn new(alloc: Global, seed: Seed) -> Block
         ensures numbered { AreNumbered result }
         ensures few { AreFew result }
         ensures none { shapes_of result ≡ [] }
         ensures count { vec_len result.lines ≡ 0 }
+        ensures right { (names : NameLists) → IsRight names result }
     {
         Block {
             names: Names::new(alloc, seed),
             lines: Vec::new(alloc),
+            known: Known::none(alloc),
+            before: 0,
         }
     }
 
-    // No lines, in the memory of another block if there is one.
+    // No lines, in the memory of another block if there is one, and with its names unless there are many.
     fn empty(alloc: Global, seed: Seed, spare: Option<Block>) -> Block
         ensures numbered { AreNumbered result }
         ensures few { AreFew result }
         ensures none { shapes_of result ≡ [] }
         ensures count { vec_len result.lines ≡ 0 }
+        ensures right { (names : NameLists) → IfSome spare (IsRight names) → IsRight names result }
     {
         match spare {
             Some(mut block) => {
-                block.names.clear();
                 block.lines.clear();
+                block.forget_many();
+                block.before = block.names.count();
                 block
             }
             None => Block::new(alloc, seed),
         }
     }
 
+    // Forgets the names where there are many.
+    fn forget_many(&mut self)
+        ensures few { HasFewNames self.new }
+        ensures lines { self.new.lines ≡ self.old.lines }
+        ensures right { (names : NameLists) → IsRight names self.old → IsRight names self.new }
+    {
+        if self.names.count() <= MOST_NAMES {
+            return;
+        }
+        self.names.clear();
+        self.known.clear();
+    }
+
     /// What the lines of a piece say that lie between its first LF and its last one, in the memory of another
-    /// block if there is one. Each line is cut once, and each of its names looked up at most once by hash.
+    /// block if there is one, whose names go on. Each line is cut once, and each of its names looked up at most once
+    /// by hash.
     pub(crate) fn of(
         alloc: Global,
         seed: Seed,
@@ -71,7 +105,9 @@ impl Block {
         spare: Option<Block>,
     ) -> Result<Block, AllocError>
         requires short { length piece.now ≤ LONGEST }
-        ensures { IfOk result (IsBlockOf piece.now) }
+        ensures says { IfOk result (IsBlockOf piece.now) }
+        ensures right { IfOk result
+            (λ block. (names : NameLists) → IfSome spare (IsRight names) → IsRight names block) }
     {
         let mut block = Block::empty(alloc, seed, spare);
         match cut(piece, LF) {
@@ -83,13 +119,24 @@ impl Block {
         }
     }
 
-    /// Whether its lines are judged quicker by numbers than from their text: most of them name what lines
-    /// before them did. Else the time goes into looking up each name of the piece.
+    /// Whether its lines are judged quicker by numbers than from their text: they have no more names that weren't there
+    /// before than half of them. Else the time goes into looking up each name of the piece.
     pub(crate) fn pays(&self) -> bool {
-        let names = u64::from(self.names.threads())
-            + u64::from(self.names.locks())
-            + u64::from(self.names.locs());
-        names <= self.lines.len() as u64 / 4
+        self.added() <= self.lines.len() as u64 / 2
+    }
+
+    /// Whether cutting pieces ahead pays, as far as this one tells. All names of the first ones are new: they tell that
+    /// it doesn't where they have more names than lines.
+    pub(crate) fn may_pay(&self) -> bool {
+        if self.before == 0 {
+            return self.added() <= self.lines.len() as u64;
+        }
+        self.pays()
+    }
+
+    // How many names its lines have that weren't there before.
+    fn added(&self) -> u64 {
+        self.names.count().saturating_sub(self.before)
     }
 
     // Adds the lines of a text.
@@ -102,6 +149,8 @@ impl Block {
             (shapes_of self.new ≡ shapes_of self.old ++ map shape_of (lines text.now)) }
         ensures count { OnOk result
             (vec_len self.new.lines ≡ vec_len self.old.lines + length (lines text.now)) }
+        ensures right { OnOk result
+            ((names : NameLists) → IsRight names self.old → IsRight names self.new) }
     {
         let mut rest = text;
         while let Some((line, after)) = next_line(rest) {
@@ -121,6 +170,8 @@ impl Block {
         ensures count { OnOk result (vec_len self.new.lines ≡ vec_len self.old.lines + 1) }
         ensures line { OnOk result
             (shapes_of self.new ≡ shapes_of self.old ++ shape_of line.now ∷ []) }
+        ensures right { OnOk result
+            ((names : NameLists) → IsRight names self.old → IsRight names self.new) }
     {
         let numbered = self.names.number_shape(alloc, shape_of(line))?;
         self.lines.push(numbered)?;

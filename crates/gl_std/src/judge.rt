@@ -48,6 +48,7 @@ impl Judge {
     ghost use Rattle.gl_event.specs.Bounds.{AreWithinRange};
     ghost use Rattle.std.specs.Prelude.{false};
     ghost use Rattle.gl_std.specs.Line.{is_on_itself};
+    ghost use Rattle.gl_std.specs.bodies.Blocks.{GoOn};
     ghost use Rattle.gl_std.specs.bodies.Counting.{count_of};
     ghost use Rattle.gl_std.specs.bodies.States.{HasJudged, IsSound};
     ghost use Rattle.gl_std.specs.bodies.Judgements.{AreApart, CanJudgeLine, HasCountedEvent, HasCountedLine, JudgesCall, JudgesLine, JudgesShape};
@@ -86,6 +87,7 @@ impl Judge {
             (λ told. after_line self.old.limits self.old.line told line.now) result }
         ensures sound { OnOk result (IsSound self.new) }
         ensures line { OnOk result (self.new.line ≡ self.old.line + 1) }
+        ensures grows { OnOk result (GoOn self.old.names self.new.names) }
     {
         let judged = self.take_shape(shape_of(line))?;
         self.line += 1;

@@ -1,5 +1,6 @@
 //! The lines of what a source gives, judged one after another as they come.
 ghost use Rattle.std.specs.Prelude.{◌≡◌, ◌+◌, ◌^◌, ◌<◌, ◌≤◌, false, ◌++◌, Contains, IfOk, OnOk, length, take};
+ghost use Rattle.gl_std.specs.bodies.Blocks.{GoOn};
 ghost use Rattle.gl_std.specs.bodies.Judgements.{CanJudgeLine};
 ghost use Rattle.gl_std.specs.bodies.States.{HasBegun, IsFit};
 ghost use Rattle.gl_std.specs.Lines.{LF};
@@ -251,6 +252,7 @@ fn end_line(judge: &mut Judge, unfinished: &mut Vec<u8>, end: &[u8]) -> Result<J
     ensures ends { EndsLine judge.old unfinished.old.items end.now
         judge.new unfinished.new.items result }
     ensures limits { judge.new.limits ≡ judge.old.limits }
+    ensures grows { OnOk result (GoOn judge.old.names judge.new.names) }
 {
     if unfinished.is_empty() {
         return judge.take(without_cr(end));

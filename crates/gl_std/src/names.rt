@@ -278,6 +278,14 @@ impl Names {
         self.locs.clear();
     }
 
+    /// How many names there are.
+    pub(crate) fn count(&self) -> u64
+        ensures { result ≡ length self.now.threads + length self.now.locks
+            + length self.now.locs }
+    {
+        u64::from(self.threads.len()) + u64::from(self.locks.len()) + u64::from(self.locs.len())
+    }
+
     /// How many threads have names.
     pub fn threads(&self) -> u32
         ensures count { result ≡ length self.now.threads }

@@ -9,7 +9,8 @@ use Rattle.gl_io.specs.declared.source.TheConstants.{CHUNK}
 use Rattle.gl_std.specs.Heard.{HasHeard}
 use Rattle.gl_std.specs.LineReading.{HasGiven}
 use Rattle.gl_std.specs.Pieces.{IsFaulty}
-use Rattle.gl_std.specs.bodies.Blocks.{IsBlockOf}
+use Rattle.gl_std.specs.Names.{NameLists}
+use Rattle.gl_std.specs.bodies.Blocks.{GoOn, IsBlockOf, IsRight}
 use Rattle.gl_std.specs.bodies.States.{IsSound, Reaches}
 use Rattle.gl_std.specs.bodies.Stepping.{CanRead, OnlyReads}
 use Rattle.gl_std.specs.declared.block.TheConstants.{LONGEST}
@@ -47,6 +48,18 @@ IsCut piece = IfSome piece.block (IsBlockOf (bytes_of piece))
 
 abbrev pub AreCut : List Piece → Type 0
 AreCut pieces = All IsCut pieces
+
+-- the numbers that its block knows of names are those among these
+abbrev pub IsRightPiece : NameLists → Piece → Type 0
+IsRightPiece names piece = IfSome piece.block (IsRight names)
+
+abbrev pub AreRight : NameLists → List Piece → Type 0
+AreRight names pieces = All (IsRightPiece names) pieces
+
+-- pieces that are spare and others stay right, among whatever names
+abbrev pub StayRight : List Piece → List Piece → List Piece → List Piece → Type 0
+StayRight spare pieces spare_later pieces_later = (names : NameLists) → AreRight names spare
+    → AreRight names pieces → (AreRight names spare_later) × (AreRight names pieces_later)
 
 -- ---- reads
 
@@ -136,12 +149,13 @@ FailsPiece old lists piece result =
     → Reaches old.judge old.unfinished.items seen told → lists ≡ told.lists
     → IsFaulty old.judge.limits (seen ++ piece) number kind
 
--- no line was counted twice, and there are no more lines than bytes
+-- no line was counted twice, there are no more lines than bytes, and names keep their numbers
 pub record OnlyJudges (old new : LineReader) (bytes : ℕ) : Type 0 where
   pub sound : IsSound new.judge
   pub few : length new.unfinished.items ≤ KEPT
   pub same_limits : new.judge.limits ≡ old.judge.limits
   pub lines : new.judge.line ≤ old.judge.line + bytes
+  pub grows : GoOn old.judge.names new.judge.names
 
 -- what comes next of a text was judged, or a line of it is at fault
 pub record JudgesText (old : LineReader) (lists : List (List Event)) (text : List ℕ)

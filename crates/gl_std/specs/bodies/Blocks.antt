@@ -14,6 +14,7 @@ use Rattle.gl_std.specs.bodies.Judgements.{AreApart, CanJudgeLine}
 use Rattle.gl_std.specs.bodies.Shown.{shown_operation}
 use Rattle.gl_std.specs.bodies.States.{HasJudged}
 use Rattle.gl_std.specs.declared.block.Block.{Block}
+use Rattle.gl_std.specs.declared.block.TheConstants.{MOST_NAMES}
 use Rattle.gl_std.specs.declared.faults.ReadFault.{ReadFault}
 use Rattle.gl_std.specs.declared.faults.ReadFault.TheVariants.{Line}
 use Rattle.gl_std.specs.declared.faults.StdKind.{StdKind}
@@ -79,11 +80,17 @@ pub record AddsFew (old new : NameLists) : Type 0 where
   pub locks : length new.locks ≤ length old.locks + 1
   pub locs : length new.locs ≤ length old.locs + 1
 
--- there are no more names than its lines have
+-- there are few names
+pub record HasFewNames (block : Block) : Type 0 where
+  pub threads : length block.names.threads ≤ MOST_NAMES
+  pub locks : length block.names.locks ≤ MOST_NAMES
+  pub locs : length block.names.locs ≤ MOST_NAMES
+
+-- there are few names beside those that its lines have
 pub record AreFew (block : Block) : Type 0 where
-  pub threads : length block.names.threads ≤ 2 * vec_len block.lines
-  pub locks : length block.names.locks ≤ vec_len block.lines
-  pub locs : length block.names.locs ≤ vec_len block.lines
+  pub threads : length block.names.threads ≤ MOST_NAMES + 2 * vec_len block.lines
+  pub locks : length block.names.locks ≤ MOST_NAMES + vec_len block.lines
+  pub locs : length block.names.locs ≤ MOST_NAMES + vec_len block.lines
 
 -- ---- and their numbers in the text
 
@@ -100,6 +107,19 @@ pub record IsKnownOf (block names : NameLists) (known : Known) : Type 0 where
   pub all_threads : vec_len known.threads ≡ length block.threads
   pub all_locks : vec_len known.locks ≡ length block.locks
   pub all_locs : vec_len known.locs ≡ length block.locs
+
+-- the same where those that were added last have none yet
+pub record IsKnownSoFar (block names : NameLists) (known : Known) : Type 0 where
+  pub threads : AreKnown block.threads names.threads known.threads.items
+  pub locks : AreKnown block.locks names.locks known.locks.items
+  pub locs : AreKnown block.locs names.locs known.locs.items
+  pub some_threads : length known.threads.items ≤ length block.threads
+  pub some_locks : length known.locks.items ≤ length block.locks
+  pub some_locs : length known.locs.items ≤ length block.locs
+
+-- the numbers that a block knows of its names are those among these
+abbrev pub IsRight : NameLists → Block → Type 0
+IsRight names block = IsKnownSoFar block.names names block.known
 
 -- ---- a block that is judged
 

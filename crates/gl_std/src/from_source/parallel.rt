@@ -1,17 +1,18 @@
 //! Reading the text that a source gives in several threads.
 //!
 //! One thread judges the pieces that were read before, one after another, while the next ones are read, and cut into
-//! lines by the others. These number the names in each piece, so that the thread that judges looks a name up once for
-//! each piece that has it, and sees numbers else.
+//! lines by the others. These number the names in each piece, and go on with the names of a piece that was judged: so
+//! the thread that judges looks each of them up once, and sees numbers else.
 //!
 //! The first piece is read before any thread is started, so that a text that ends in it costs what it costs one
-//! thread. Where most names of a piece are new to it, cutting it ahead doesn't pay: its lines are judged from its text, and
-//! where that is so of all pieces of a round, this thread goes on alone.
-ghost use Rattle.std.specs.Prelude.{◌≡◌, ◌^◌, ◌<◌, ◌≤◌, [], true, false, vec_len, IfOk};
+//! thread. Where a piece has many new names, cutting it ahead doesn't pay: its lines are judged from its text, and where
+//! that is so of all pieces of a round, this thread goes on alone.
+ghost use Rattle.std.specs.Prelude.{◌≡◌, ◌^◌, ◌<◌, ◌≤◌, [], true, false, vec_len, IfOk, OnOk};
 ghost use Rattle.gl_io.specs.declared.source.TheConstants.{CHUNK};
 ghost use Rattle.gl_std.specs.Heard.{HasHeard};
+ghost use Rattle.gl_std.specs.Names.{NameLists};
 ghost use Rattle.gl_std.specs.Trace.{IsTraceOver};
-ghost use Rattle.gl_std.specs.bodies.Ahead.{bytes_of, text_of, AreCut, AreShort, CanJudge, CanReadAhead, CanReadPieces, HasReadPieces, HearsEnding, HearsFault, HearsFaulty, HearsPieces, HearsRest, IsCut, IsShort, JudgesText};
+ghost use Rattle.gl_std.specs.bodies.Ahead.{bytes_of, text_of, AreCut, AreRight, AreShort, CanJudge, CanReadAhead, CanReadPieces, HasReadPieces, HearsEnding, HearsFault, HearsFaulty, HearsPieces, HearsRest, IsCut, IsRightPiece, IsShort, JudgesText, StayRight};
 ghost use Rattle.gl_std.specs.declared.line_reader.pieces.Ending.TheVariants.{More};
 
 use super::{Heard, finish, read_on, read_source};
@@ -66,6 +67,7 @@ fn cut_all<R: Threads + Sync>(rt: &R, cutters: Cutters, pieces: &mut [Piece])
     ensures cut { AreCut pieces.new }
     ensures short { AreShort pieces.new }
     ensures same { text_of pieces.new ≡ text_of pieces.old }
+    ensures right { (names : NameLists) → AreRight names pieces.old → AreRight names pieces.new }
 {
     thread::for_each_mut(
         rt,
@@ -76,6 +78,8 @@ fn cut_all<R: Threads + Sync>(rt: &R, cutters: Cutters, pieces: &mut [Piece])
             ensures cut { IsCut piece.new }
             ensures short { IsShort piece.new }
             ensures same { bytes_of piece.new ≡ bytes_of piece.old }
+            ensures right { (names : NameLists) → IsRightPiece names piece.old
+                → IsRightPiece names piece.new }
         {
             piece.cut(cutters.alloc, cutters.seed, cutters.cuts);
         },
@@ -89,6 +93,8 @@ fn cut_pieces<R: Threads + Sync>(rt: &R, cutters: Cutters, pieces: &mut Vec<Piec
     ensures cut { AreCut pieces.new.items }
     ensures short { AreShort pieces.new.items }
     ensures same { text_of pieces.new.items ≡ text_of pieces.old.items }
+    ensures right { (names : NameLists) → AreRight names pieces.old.items
+        → AreRight names pieces.new.items }
 {
     cut_all(rt, cutters, pieces.as_mut_slice());
 }
@@ -103,33 +109,86 @@ fn read_and_cut<T: Threads + Sync, R: Source>(
     pieces: &mut Vec<Piece>,
 ) -> Result<Ending, AllocError>
     requires { CanReadPieces cutters.threads reader.old (R.failed input.old) pieces.old.items }
-    ensures { IfOk result
+    ensures read { IfOk result
         (HasReadPieces (R.position input.old) reader.old (R.position input.new)
         (R.failed input.new) reader.new pieces.new.items) }
+    ensures right { OnOk result
+        (StayRight spare.old.items pieces.old.items spare.new.items pieces.new.items) }
 {
     let ending = reader.read_ahead(cutters.alloc, input, spare, pieces, cutters.threads)?;
     cut_pieces(rt, cutters, pieces);
     Ok(ending)
 }
 
-// Judges the pieces that were read ahead in a thread of its own, while the next ones are read and cut. Where none
-// are ahead a single piece is read, and no thread started.
-fn take_and_read<T: Threads + Sync, R: Source>(
+// Judges the pieces that were read ahead in a thread of its own, while the next ones are read and cut.
+fn take_beside_reading<T: Threads + Sync, R: Source>(
     rt: &T,
     cutters: Cutters,
     judge: &mut LineReader,
     lists: &mut Lists,
-    ahead: &[Piece],
+    ahead: &mut Vec<Piece>,
     reader: &mut LineReader,
     input: &mut R,
     spare: &mut Vec<Piece>,
     pieces: &mut Vec<Piece>,
 ) -> (Result<(), ReadFault>, Result<Ending, AllocError>)
-    requires can { CanJudge judge.old ahead.now }
+    requires can { CanJudge judge.old ahead.old.items }
+    requires right { AreRight judge.old.judge.names ahead.old.items }
     requires can_read { CanReadPieces cutters.threads
         reader.old (R.failed input.old) pieces.old.items }
-    ensures taken { JudgesText judge.old lists.old (text_of ahead.now)
+    ensures taken { JudgesText judge.old lists.old (text_of ahead.old.items)
         judge.new lists.new result.0 }
+    ensures right { OnOk result.0 (AreRight judge.new.judge.names ahead.new.items) }
+    ensures read_right { OnOk result.1
+        (StayRight spare.old.items pieces.old.items spare.new.items pieces.new.items) }
+    ensures read { IfOk result.1
+        (HasReadPieces (R.position input.old) reader.old (R.position input.new)
+        (R.failed input.new) reader.new pieces.new.items) }
+{
+    let alloc = cutters.alloc;
+    let mut taking = || -> Result<(), ReadFault>
+        requires can { CanJudge judge.now ahead.now.items }
+        requires right { AreRight judge.now.judge.names ahead.now.items }
+        ensures taken { JudgesText judge.entry.now lists.entry.now (text_of ahead.entry.now.items)
+            judge.exit.now lists.exit.now result }
+        ensures right { OnOk result (AreRight judge.exit.now.judge.names ahead.exit.now.items) }
+    { judge.take_pieces(alloc, lists, ahead) };
+    let mut reading = || -> Result<Ending, AllocError>
+        requires { CanReadPieces cutters.threads
+            reader.now (R.failed input.now) pieces.now.items }
+        ensures read { IfOk result
+            (HasReadPieces (R.position input.entry.now) reader.entry.now
+            (R.position input.exit.now) (R.failed input.exit.now) reader.exit.now
+            pieces.exit.now.items) }
+        ensures right { OnOk result
+            (StayRight spare.entry.now.items pieces.entry.now.items
+            spare.exit.now.items pieces.exit.now.items) }
+    { read_and_cut(rt, cutters, reader, input, spare, pieces) };
+    join_mut(rt, &mut taking, &mut reading)
+}
+
+// Judges the pieces that were read ahead while the next ones are read and cut. Where none are ahead a single piece is
+// read, and no thread started.
+fn take_and_read<T: Threads + Sync, R: Source>(
+    rt: &T,
+    cutters: Cutters,
+    judge: &mut LineReader,
+    lists: &mut Lists,
+    ahead: &mut Vec<Piece>,
+    reader: &mut LineReader,
+    input: &mut R,
+    spare: &mut Vec<Piece>,
+    pieces: &mut Vec<Piece>,
+) -> (Result<(), ReadFault>, Result<Ending, AllocError>)
+    requires can { CanJudge judge.old ahead.old.items }
+    requires right { AreRight judge.old.judge.names ahead.old.items }
+    requires can_read { CanReadPieces cutters.threads
+        reader.old (R.failed input.old) pieces.old.items }
+    ensures taken { JudgesText judge.old lists.old (text_of ahead.old.items)
+        judge.new lists.new result.0 }
+    ensures right { OnOk result.0 (AreRight judge.new.judge.names ahead.new.items) }
+    ensures read_right { OnOk result.1
+        (StayRight spare.old.items pieces.old.items spare.new.items pieces.new.items) }
     ensures read { IfOk result.1
         (HasReadPieces (R.position input.old) reader.old (R.position input.new)
         (R.failed input.new) reader.new pieces.new.items) }
@@ -144,26 +203,15 @@ fn take_and_read<T: Threads + Sync, R: Source>(
         let read = read_and_cut(rt, first, reader, input, spare, pieces);
         return (judge.take_pieces(cutters.alloc, lists, ahead), read);
     }
-    let mut taking = || -> Result<(), ReadFault>
-        requires { CanJudge judge.now ahead.now }
-        ensures { JudgesText judge.entry.now lists.entry.now (text_of ahead.entry.now)
-            judge.exit.now lists.exit.now result }
-    { judge.take_pieces(cutters.alloc, lists, ahead) };
-    let mut reading = || -> Result<Ending, AllocError>
-        requires { CanReadPieces cutters.threads
-            reader.now (R.failed input.now) pieces.now.items }
-        ensures { IfOk result
-            (HasReadPieces (R.position input.entry.now) reader.entry.now
-            (R.position input.exit.now) (R.failed input.exit.now) reader.exit.now
-            pieces.exit.now.items) }
-    { read_and_cut(rt, cutters, reader, input, spare, pieces) };
-    join_mut(rt, &mut taking, &mut reading)
+    take_beside_reading(
+        rt, cutters, judge, lists, ahead, reader, input, spare, pieces,
+    )
 }
 
 // Whether cutting them ahead pays for one of these pieces, as far as that is known.
-fn pay(pieces: &[Piece]) -> bool {
+fn may_pay(pieces: &[Piece]) -> bool {
     for i in 0..pieces.len() {
-        if pieces[i].pays() {
+        if pieces[i].may_pay() {
             return true;
         }
     }
@@ -207,11 +255,12 @@ fn finish_ahead(
     alloc: Global,
     mut reader: LineReader,
     mut lists: Lists,
-    pieces: &[Piece],
+    pieces: &mut Vec<Piece>,
     is_whole: bool,
 ) -> Result<Heard, AllocError>
-    requires can { CanJudge reader pieces.now }
-    ensures { IfOk result (HearsPieces reader lists (text_of pieces.now) is_whole) }
+    requires can { CanJudge reader pieces.old.items }
+    requires right { AreRight reader.judge.names pieces.old.items }
+    ensures { IfOk result (HearsPieces reader lists (text_of pieces.old.items) is_whole) }
 {
     match reader.take_pieces(alloc, &mut lists, pieces) {
         Ok(()) => {
@@ -235,14 +284,15 @@ fn read_alone<R: Source>(
     mut reader: LineReader,
     mut judge: LineReader,
     mut lists: Lists,
-    pieces: &[Piece],
+    pieces: &mut Vec<Piece>,
     input: &mut R,
 ) -> Result<Heard, AllocError>
-    requires can { CanJudge judge pieces.now }
-    requires on { CanReadAhead reader judge (text_of pieces.now) }
+    requires can { CanJudge judge pieces.old.items }
+    requires right { AreRight judge.judge.names pieces.old.items }
+    requires on { CanReadAhead reader judge (text_of pieces.old.items) }
     requires not_failed { R.failed input.old ≡ false }
     ensures { IfOk result
-        (HearsRest (R.position input.old) reader judge lists (text_of pieces.now)
+        (HearsRest (R.position input.old) reader judge lists (text_of pieces.old.items)
         (R.position input.new) (R.failed input.new)) }
 {
     match judge.take_pieces(alloc, &mut lists, pieces) {
@@ -262,7 +312,7 @@ fn goes_on(ending: Ending, pieces: &[Piece]) -> bool
     ensures { result ≡ true → ending ≡ More }
 {
     match ending {
-        Ending::More => pay(pieces),
+        Ending::More => may_pay(pieces),
         Ending::End => false,
         Ending::Broke => false,
     }
@@ -275,16 +325,17 @@ fn leave<R: Source>(
     reader: LineReader,
     judge: LineReader,
     lists: Lists,
-    pieces: &[Piece],
+    pieces: &mut Vec<Piece>,
     input: &mut R,
     ending: Ending,
 ) -> Result<Heard, AllocError>
-    requires can { CanJudge judge pieces.now }
-    requires on { ending ≡ More → CanReadAhead reader judge (text_of pieces.now) }
+    requires can { CanJudge judge pieces.old.items }
+    requires right { AreRight judge.judge.names pieces.old.items }
+    requires on { ending ≡ More → CanReadAhead reader judge (text_of pieces.old.items) }
     requires not_failed { ending ≡ More → R.failed input.old ≡ false }
     ensures { IfOk result
         (HearsEnding ending (R.position input.old) (R.failed input.old) reader judge lists
-        (text_of pieces.now) (R.position input.new) (R.failed input.new)) }
+        (text_of pieces.old.items) (R.position input.new) (R.failed input.new)) }
 {
     match ending {
         Ending::More => read_alone(alloc, reader, judge, lists, pieces, input),
@@ -319,7 +370,7 @@ fn read_ahead<T: Threads + Sync, R: Source>(
             cutters,
             &mut judge,
             &mut lists,
-            ahead.as_slice(),
+            &mut ahead,
             &mut reader,
             input,
             &mut spare,
@@ -334,15 +385,7 @@ fn read_ahead<T: Threads + Sync, R: Source>(
             Err(ReadFault::Memory) => return Err(AllocError),
         }
         if !goes_on(ending, pieces.as_slice()) {
-            return leave(
-                alloc,
-                reader,
-                judge,
-                lists,
-                pieces.as_slice(),
-                input,
-                ending,
-            );
+            return leave(alloc, reader, judge, lists, &mut pieces, input, ending);
         }
         spare = ahead;
         ahead = pieces;
@@ -354,7 +397,7 @@ fn read_ahead<T: Threads + Sync, R: Source>(
 /// ends in its first half megabyte, and from where it is seen that most names are new.
 ///
 /// Err where memory was refused. Beside what [`read_source`] keeps in memory, there is a megabyte of the text for
-/// each thread, cut into lines.
+/// each thread, cut into lines, and twice as many of its names as 131,072 at most, beside those of that megabyte.
 pub fn read_source_parallel<T: Threads + Sync, R: Source>(
     rt: &T,
     alloc: Global,

@@ -1,8 +1,8 @@
 //! Judging the lines of a block, whose names have numbers of its own.
-ghost use Rattle.std.specs.Prelude.{◌≡◌, ◌+◌, ◌^◌, ◌<◌, false, [], ◌∷◌, All, vec_len, OnOk};
+ghost use Rattle.std.specs.Prelude.{◌≡◌, ◌+◌, ◌^◌, ◌<◌, false, [], ◌∷◌, All, length, map, vec_len, OnOk};
 ghost use Rattle.gl_std.specs.Line.{is_on_itself};
 ghost use Rattle.gl_std.specs.Trace.{operands};
-ghost use Rattle.gl_std.specs.bodies.Blocks.{named, shape_in, shapes_of, AreNumbered, CanJudgeNumbered, FailsShapes, IsKnownOf, IsNumbered, TakesShapes};
+ghost use Rattle.gl_std.specs.bodies.Blocks.{named, shape_in, shapes_of, AreNumbered, CanJudgeNumbered, FailsShapes, GoOn, IsKnownOf, IsNumbered, IsRight, TakesShapes};
 ghost use Rattle.gl_std.specs.bodies.Finding.{found_in};
 ghost use Rattle.gl_std.specs.bodies.Judgements.{AreApart, HasCountedEvent, HasCountedLine, JudgesShape};
 ghost use Rattle.gl_std.specs.bodies.Shown.{shown_operation};
@@ -26,22 +26,58 @@ impl Judge {
         &mut self,
         alloc: Global,
         lists: &mut Lists,
-        block: &Block,
+        block: &mut Block,
     ) -> Result<(), ReadFault>
         requires sound { IsSound self.old }
-        requires numbered { AreNumbered block.now }
-        requires apart { All AreApart (shapes_of block.now) }
-        requires countable { self.old.line + vec_len block.now.lines + 1 < 2 ^ 64 }
+        requires numbered { AreNumbered block.old }
+        requires apart { All AreApart (shapes_of block.old) }
+        requires countable { self.old.line + vec_len block.old.lines + 1 < 2 ^ 64 }
+        requires right { IsRight self.old.names block.old }
         ensures tells { OnOk result
-            (TakesShapes self.old lists.old (shapes_of block.now) self.new lists.new) }
-        ensures fault { FailsShapes self.old lists.old (shapes_of block.now) result }
+            (TakesShapes self.old lists.old (shapes_of block.old) self.new lists.new) }
+        ensures fault { FailsShapes self.old lists.old (shapes_of block.old) result }
         ensures sound { OnOk result (IsSound self.new) }
         ensures limits { self.new.limits ≡ self.old.limits }
-        ensures line { OnOk result (self.new.line ≡ self.old.line + vec_len block.now.lines) }
+        ensures line { OnOk result (self.new.line ≡ self.old.line + vec_len block.old.lines) }
+        ensures right { OnOk result (IsRight self.new.names block.new) }
+        ensures grows { OnOk result (GoOn self.old.names self.new.names) }
     {
-        let mut known = Known::new(alloc, &block.names)?;
-        for i in 0..block.lines.len() {
-            self.take_numbered(alloc, lists, &block.names, &mut known, block.lines[i])?;
+        block.known.make_room(&block.names)?;
+        self.take_lines(
+            alloc,
+            lists,
+            &block.names,
+            &mut block.known,
+            block.lines.as_slice(),
+        )
+    }
+
+    // Takes what these lines say, in the numbers of these names.
+    fn take_lines(
+        &mut self,
+        alloc: Global,
+        lists: &mut Lists,
+        names: &Names,
+        known: &mut Known,
+        lines: &[NumberedLine],
+    ) -> Result<(), ReadFault>
+        requires sound { IsSound self.old }
+        requires numbered { All (IsNumbered names.now) lines.now }
+        requires apart { All AreApart (map (shape_in names.now) lines.now) }
+        requires countable { self.old.line + length lines.now + 1 < 2 ^ 64 }
+        requires known { IsKnownOf names.now self.old.names known.old }
+        ensures tells { OnOk result
+            (TakesShapes self.old lists.old (map (shape_in names.now) lines.now)
+            self.new lists.new) }
+        ensures fault { FailsShapes self.old lists.old (map (shape_in names.now) lines.now) result }
+        ensures sound { OnOk result (IsSound self.new) }
+        ensures limits { self.new.limits ≡ self.old.limits }
+        ensures line { OnOk result (self.new.line ≡ self.old.line + length lines.now) }
+        ensures known { OnOk result (IsKnownOf names.now self.new.names known.new) }
+        ensures grows { OnOk result (GoOn self.old.names self.new.names) }
+    {
+        for i in 0..lines.len() {
+            self.take_numbered(alloc, lists, names, known, lines[i])?;
         }
         Ok(())
     }
@@ -61,6 +97,7 @@ impl Judge {
             (TakesShapes self.old lists.old (shape_in names.now line ∷ []) self.new lists.new) }
         ensures fault { FailsShapes self.old lists.old (shape_in names.now line ∷ []) result }
         ensures known { OnOk result (IsKnownOf names.now self.new.names known.new) }
+        ensures grows { OnOk result (GoOn self.old.names self.new.names) }
         ensures sound { OnOk result (IsSound self.new) }
         ensures limits { self.new.limits ≡ self.old.limits }
         ensures line { OnOk result (self.new.line ≡ self.old.line + 1) }

@@ -1,13 +1,14 @@
 //! Reading ahead: what the reads give is cut into lines before it is judged.
-ghost use Rattle.std.specs.Prelude.{◌≡◌, ◌+◌, ◌<◌, ◌≤◌, List, [], ◌∷◌, ◌++◌, Contains, false, drop, is_err, length, take, Ok, Some, vec_len, IfOk, IfSome, OnErr};
+ghost use Rattle.std.specs.Prelude.{◌≡◌, ◌+◌, ◌<◌, ◌≤◌, List, [], ◌∷◌, ◌++◌, Contains, false, drop, is_err, length, take, Ok, Some, vec_len, IfOk, OnErr, OnOk};
 ghost use Rattle.std.specs.Io.KnownBytes.{Consumes, IsAtEnd, Keeps};
 ghost use Rattle.gl_event.specs.declared.events.Event.{Event};
 ghost use Rattle.gl_io.specs.Positions.{LieBetween};
 ghost use Rattle.gl_io.specs.declared.source.TheConstants.{CHUNK};
 ghost use Rattle.gl_std.specs.Line.{cut_at};
 ghost use Rattle.gl_std.specs.Lines.{LF};
-ghost use Rattle.gl_std.specs.bodies.Ahead.{bytes_of, text_of, AreShort, CanJudge, CanJudgeText, HasAddedPieces, HasFilledPiece, HasGoneOn, IsCut, IsShort, JudgesText};
-ghost use Rattle.gl_std.specs.bodies.Blocks.{IsBlockOf};
+ghost use Rattle.gl_std.specs.Names.{NameLists};
+ghost use Rattle.gl_std.specs.bodies.Ahead.{bytes_of, text_of, AreShort, CanJudge, CanJudgeText, AreRight, HasAddedPieces, HasFilledPiece, HasGoneOn, IsCut, IsRightPiece, IsShort, JudgesText, StayRight};
+ghost use Rattle.gl_std.specs.bodies.Blocks.{IsBlockOf, IsRight};
 ghost use Rattle.gl_std.specs.bodies.Judgements.{CanJudgeLine};
 ghost use Rattle.gl_std.specs.bodies.States.{IsSound};
 ghost use Rattle.gl_std.specs.bodies.Stepping.{CanRead};
@@ -54,6 +55,8 @@ impl Piece {
     // A piece without text, in the memory of another one if there is one.
     fn empty(alloc: Global, spare: &mut Vec<Piece>) -> Piece
         ensures none { bytes_of result ≡ [] }
+        ensures right { (names : NameLists) → AreRight names spare.old.items
+            → (IsRightPiece names result) × (AreRight names spare.new.items) }
     {
         match spare.pop() {
             Some(mut piece) => {
@@ -74,6 +77,8 @@ impl Piece {
         ensures cut { IsCut self.new }
         ensures short { IsShort self.new }
         ensures same { bytes_of self.new ≡ bytes_of self.old }
+        ensures right { (names : NameLists) → IsRightPiece names self.old
+            → IsRightPiece names self.new }
     {
         let spare = self.block.take();
         if !cuts {
@@ -85,27 +90,11 @@ impl Piece {
         };
     }
 
-    /// Whether its lines are judged quicker by numbers than from their text, as far as that is known.
-    pub(crate) fn pays(&self) -> bool {
+    /// Whether cutting pieces ahead pays, as far as this one tells.
+    pub(crate) fn may_pay(&self) -> bool {
         match &self.block {
-            Some(block) => block.pays(),
+            Some(block) => block.may_pay(),
             None => true,
-        }
-    }
-
-    // What its lines say by numbers, where that is known and quicker than their text.
-    fn paying(&self) -> Option<&Block>
-        requires cut { IsCut self.now }
-        ensures { IfSome result (λ block. IsBlockOf (bytes_of self.now) block.now) }
-    {
-        match &self.block {
-            Some(block) => {
-                if block.pays() {
-                    return Some(block);
-                }
-                None
-            }
-            None => None,
         }
     }
 }
@@ -140,9 +129,11 @@ impl LineReader {
         requires can { CanRead self.old (R.failed input.old) }
         requires short { AreShort pieces.old.items }
         requires few { vec_len pieces.old < most }
-        ensures { IfOk result
+        ensures adds { IfOk result
             (HasAddedPieces (R.position input.old) self.old pieces.old.items
             (R.position input.new) (R.failed input.new) self.new pieces.new.items) }
+        ensures right { OnOk result
+            (StayRight spare.old.items pieces.old.items spare.new.items pieces.new.items) }
     {
         loop {
             match self.read_piece(alloc, input, spare, pieces)? {
@@ -169,6 +160,8 @@ impl LineReader {
             (HasAddedPieces (R.position input.old) self.old pieces.old.items
             (R.position input.new) (R.failed input.new) self.new pieces.new.items) }
         ensures one { result ≡ Ok More → vec_len pieces.new ≡ vec_len pieces.old + 1 }
+        ensures right { OnOk result
+            (StayRight spare.old.items pieces.old.items spare.new.items pieces.new.items) }
     {
         let mut piece = Piece::empty(alloc, spare);
         let ending = self.read_into(input, &mut piece)?;
@@ -184,9 +177,10 @@ impl LineReader {
     ) -> Result<Ending, AllocError>
         requires can { CanRead self.old (R.failed input.old) }
         requires none { bytes_of piece.old ≡ [] }
-        ensures { IfOk result
+        ensures filled { IfOk result
             (HasFilledPiece (R.position input.old) self.old piece.old
             (R.position input.new) (R.failed input.new) self.new piece.new) }
+        ensures block { piece.new.block ≡ piece.old.block }
     {
         loop {
             match self.read_more(input, piece)? {
@@ -207,9 +201,10 @@ impl LineReader {
     ) -> Result<Ending, AllocError>
         requires can { CanRead self.old (R.failed input.old) }
         requires short { length (bytes_of piece.old) + CHUNK ≤ LONGEST }
-        ensures { IfOk result
+        ensures filled { IfOk result
             (HasFilledPiece (R.position input.old) self.old piece.old
             (R.position input.new) (R.failed input.new) self.new piece.new) }
+        ensures block { piece.new.block ≡ piece.old.block }
     {
         if self.turns == 0 {
             return Ok(Ending::Broke);
@@ -257,13 +252,16 @@ impl LineReader {
         &mut self,
         alloc: Global,
         lists: &mut Lists,
-        pieces: &[Piece],
+        pieces: &mut Vec<Piece>,
     ) -> Result<(), ReadFault>
-        requires can { CanJudge self.old pieces.now }
-        ensures { JudgesText self.old lists.old (text_of pieces.now) self.new lists.new result }
+        requires can { CanJudge self.old pieces.old.items }
+        requires right { AreRight self.old.judge.names pieces.old.items }
+        ensures judges { JudgesText self.old lists.old (text_of pieces.old.items)
+            self.new lists.new result }
+        ensures right { OnOk result (AreRight self.new.judge.names pieces.new.items) }
     {
-        for i in 0..pieces.len() {
-            self.take_piece(alloc, lists, &pieces[i])?;
+        for piece in pieces.iter_mut() {
+            self.take_piece(alloc, lists, piece)?;
         }
         Ok(())
     }
@@ -273,17 +271,24 @@ impl LineReader {
         &mut self,
         alloc: Global,
         lists: &mut Lists,
-        piece: &Piece,
+        piece: &mut Piece,
     ) -> Result<(), ReadFault>
-        requires can { CanJudgeText self.old (length (bytes_of piece.now)) }
-        requires short { IsShort piece.now }
-        requires cut { IsCut piece.now }
-        ensures { JudgesText self.old lists.old (bytes_of piece.now) self.new lists.new result }
+        requires can { CanJudgeText self.old (length (bytes_of piece.old)) }
+        requires short { IsShort piece.old }
+        requires cut { IsCut piece.old }
+        requires right { IsRightPiece self.old.judge.names piece.old }
+        ensures judges { JudgesText self.old lists.old (bytes_of piece.old)
+            self.new lists.new result }
+        ensures right { OnOk result (IsRightPiece self.new.judge.names piece.new) }
     {
-        let text = piece.text.as_slice();
-        match piece.paying() {
-            Some(block) => self.take_cut(alloc, lists, text, block),
-            None => self.take_text(alloc, lists, text),
+        match &mut piece.block {
+            Some(block) => {
+                if block.pays() {
+                    return self.take_cut(alloc, lists, piece.text.as_slice(), block);
+                }
+                self.take_text(alloc, lists, piece.text.as_slice())
+            }
+            None => self.take_text(alloc, lists, piece.text.as_slice()),
         }
     }
 
@@ -331,11 +336,13 @@ impl LineReader {
         alloc: Global,
         lists: &mut Lists,
         text: &[u8],
-        block: &Block,
+        block: &mut Block,
     ) -> Result<(), ReadFault>
         requires can { CanJudgeText self.old (length text.now) }
-        requires block { IsBlockOf text.now block.now }
-        ensures { JudgesText self.old lists.old text.now self.new lists.new result }
+        requires block { IsBlockOf text.now block.old }
+        requires right { IsRight self.old.judge.names block.old }
+        ensures judges { JudgesText self.old lists.old text.now self.new lists.new result }
+        ensures right { OnOk result (IsRight self.new.judge.names block.new) }
     {
         match cut(text, LF) {
             Some((end, after)) => self.take_lines(alloc, lists, text, end, after, block),
@@ -352,12 +359,14 @@ impl LineReader {
         piece: &[u8],
         end: &[u8],
         after: &[u8],
-        block: &Block,
+        block: &mut Block,
     ) -> Result<(), ReadFault>
         requires can { CanJudgeText self.old (length piece.now) }
         requires parts { Some (end.now, after.now) ≡ cut_at LF piece.now }
-        requires block { IsBlockOf piece.now block.now }
-        ensures { JudgesText self.old lists.old piece.now self.new lists.new result }
+        requires block { IsBlockOf piece.now block.old }
+        requires right { IsRight self.old.judge.names block.old }
+        ensures judges { JudgesText self.old lists.old piece.now self.new lists.new result }
+        ensures right { OnOk result (IsRight self.new.judge.names block.new) }
     {
         let judged = end_line(&mut self.judge, &mut self.unfinished, end)?;
         lists.add(alloc, self.judge.names(), judged)?;

@@ -1,9 +1,9 @@
 //! Which numbers the names of a block have in its text.
-ghost use Rattle.std.specs.Prelude.{◌≡◌, ◌<◌, Some, None, length, position, replicate, slice_get, vec_len, IfOk};
+ghost use Rattle.std.specs.Prelude.{◌≡◌, ◌<◌, Some, length, position, slice_get, vec_len, OnOk};
 ghost use Rattle.std.specs.Str.{bytes_eq};
 ghost use Rattle.gl_std.specs.Names.{NameLists};
 ghost use Rattle.gl_std.specs.Trace.{operands};
-ghost use Rattle.gl_std.specs.bodies.Blocks.{named, AreKnown, IsKnownOf};
+ghost use Rattle.gl_std.specs.bodies.Blocks.{named, AreKnown, IsKnownOf, IsKnownSoFar};
 ghost use Rattle.gl_std.specs.bodies.Shown.{shown_operation};
 
 use super::{NameList, Names};
@@ -31,28 +31,36 @@ impl Drop for Known {
 }
 
 impl Known {
-    /// None was looked up yet of a block's names.
-    pub(crate) fn new(alloc: Global, block: &Names) -> Result<Known, AllocError>
-        ensures { IfOk result (λ known. (names : NameLists) → IsKnownOf block.now names known) }
+    /// None was looked up.
+    pub(crate) fn none(alloc: Global) -> Known
+        ensures { (block names : NameLists) → IsKnownSoFar block names result }
     {
-        Ok(Known {
-            threads: unknown(alloc, block.threads.len() as usize)?,
-            locks: unknown(alloc, block.locks.len() as usize)?,
-            locs: unknown(alloc, block.locs.len() as usize)?,
-        })
+        Known {
+            threads: Vec::new(alloc),
+            locks: Vec::new(alloc),
+            locs: Vec::new(alloc),
+        }
     }
-}
 
-// Of so many names no number is known.
-fn unknown(alloc: Global, count: usize) -> Result<Vec<Option<u32>>, AllocError>
-    ensures none { IfOk result (λ numbers. numbers.items ≡ replicate count None) }
-    ensures count { IfOk result (λ numbers. vec_len numbers ≡ count) }
-{
-    let mut numbers = Vec::new(alloc);
-    for _ in 0..count {
-        numbers.push(None)?;
+    /// Forgets all that was looked up, and keeps the memory.
+    pub(crate) fn clear(&mut self)
+        ensures { (block names : NameLists) → IsKnownSoFar block names self.new }
+    {
+        self.threads.clear();
+        self.locks.clear();
+        self.locs.clear();
     }
-    Ok(numbers)
+
+    /// Makes a place for each of a block's names that has none yet: it wasn't looked up.
+    pub(crate) fn make_room(&mut self, block: &Names) -> Result<(), AllocError>
+        ensures { OnOk result ((names : NameLists) → IsKnownSoFar block.now names self.old
+            → IsKnownOf block.now names self.new) }
+    {
+        self.threads.resize(block.threads.len() as usize, None)?;
+        self.locks.resize(block.locks.len() as usize, None)?;
+        self.locs.resize(block.locs.len() as usize, None)?;
+        Ok(())
+    }
 }
 
 impl NameList {

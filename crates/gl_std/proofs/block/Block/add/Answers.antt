@@ -1,7 +1,7 @@
 use Rattle.std.proofs.Common.{ℕ, ◌<◌, length, get_or, sym, subst, ◌∙◌}
 use Rattle.gl_std.specs.bodies.Blocks.{IsNumbered}
 use Rattle.gl_std.specs.declared.numbered_line.NumberedLine.{NumberedLine}
-use Rattle.gl_std.proofs.NumberedLines.{all_later, all_push, shapes_push}
+use Rattle.gl_std.proofs.NumberedLines.{all_later, all_push, right_on, shapes_push}
 use Rattle.gl_std.proofs.block.Block.add.Goals as goal
 
 pub returns-clause-numbered : goal.returns-clause-numbered
@@ -17,3 +17,6 @@ returns-clause-line c =
     let old = c.args.self.now in
     shapes_push old.names c.number_shape.new.self old.lines.items c.push.new.self.items c.in_ok-numbered.numbered _ c.in_ok-numbered.ensures.go_on c.requires.numbered c.in_ok-push.ensures.items
     (c.in_ok-numbered.ensures.says ∙ c.shape_of.ensures)
+
+pub returns-clause-right : goal.returns-clause-right
+returns-clause-right c = λ names right. right_on c.args.self.now.names c.number_shape.new.self names c.args.self.now.known c.in_ok-numbered.ensures.go_on right

@@ -16,9 +16,12 @@ add_lines-requires-clause-room c =
     omega (arith, parts, length-append c.in-Some.field-0-0.now (LF ∷ after), whole, length-append (ended_lines after) ended.0, lines, c.requires.short, c.empty-block.ensures.count)
 
 -- it has no LF
-pub returns-in-None : goal.returns-in-None
-returns-in-None c = record {
+pub returns-in-None-clause-says : goal.returns-in-None-clause-says
+returns-in-None-clause-says c = record {
   numbered = c.empty-block.ensures.numbered;
   says = c.empty-block.ensures.none ∙ sym (ap (λ cut. map shape_of (lines (option_map_or (λ (p : List ℕ × List ℕ). ended_lines p.1) cut []))) (sym c.in-None.ensures));
   count = c.empty-block.ensures.count ∙ sym (ap (λ cut. length (lines (option_map_or (λ (p : List ℕ × List ℕ). ended_lines p.1) cut []))) (sym c.in-None.ensures));
 }
+
+pub returns-in_ok-add_lines-in-Some-clause-right : goal.returns-in_ok-add_lines-in-Some-clause-right
+returns-in_ok-add_lines-in-Some-clause-right c = λ names right. c.in_ok-add_lines-in-Some.ensures.right names (c.empty-block.ensures.right names right)

@@ -1,5 +1,5 @@
 use Rattle.std.proofs.Common.{◌≡◌, [], false}
-use Rattle.gl_std.specs.bodies.Ahead.{text_of, AreCut, AreShort, CanReadAhead, IsStillAhead}
+use Rattle.gl_std.specs.bodies.Ahead.{text_of, AreCut, AreRight, AreShort, CanReadAhead, IsStillAhead}
 use Rattle.gl_std.proofs.from_source.parallel.read_ahead.Given as goal
 
 abbrev pub invariant-loop-pieces : goal.invariant-loop-pieces
@@ -8,6 +8,8 @@ invariant-loop-pieces g l = record {
   can : CanReadAhead l.reader l.judge (text_of l.ahead.items);
   short : AreShort l.ahead.items;
   cut : AreCut l.ahead.items;
+  right : AreRight l.judge.judge.names l.ahead.items;
+  spare_right : AreRight l.judge.judge.names l.spare.items;
   not_failed : g.R.Source.failed l.input ≡ false;
 }
 

@@ -1,57 +1,15 @@
-use Rattle.std.proofs.Common.{◌≡◌, ◌+◌, ◌<◌, Err, length, map, take, sym, ap, subst, ◌∙◌, arith}
-use Rattle.std.proofs.lemmas.Grind.{common_steps}
-use Rattle.gl_std.specs.bodies.Blocks.{after_shapes, shape_in, HasTakenShapes, IsNumbered}
-use Rattle.gl_std.specs.bodies.Judgements.{AreApart}
-use Rattle.gl_std.specs.declared.faults.ReadFault.TheVariants.{Line}
-use Rattle.std.proofs.lemmas.List.{get_or-map, length-map}
-use Rattle.gl_std.proofs.NumberedLines.{failed_push, length_map_take, map_take_next, map_take_rest, taken_push}
+use Rattle.std.proofs.Common.{map, subst, arith}
+use Rattle.gl_std.specs.bodies.Blocks.{shape_in, FailsShapes, IsKnownOf}
+use Rattle.gl_std.proofs.NumberedLines.{if_ok_then, known_so_far}
 use Rattle.gl_std.proofs.judge.Judge.take_block.Goals as goal
 
-pub take_numbered-requires : goal.take_numbered-requires
-take_numbered-requires c =
-    let so_far = c.loop-i.invariant in
-    let block = c.args.block.now in
-    let shape = shape_in block.names c.index.result.now in
-    let within = c.loop-i-test.true in
-    record {
-      can = record { sound = so_far.sound; countable = omega (arith, within, c.len-i-end.ensures, so_far.line, c.requires.countable) };
-      numbered = subst (IsNumbered block.names) (sym c.index.ensures) (c.requires.numbered c.loop-i.i c.index.result.now (omega (arith, within, c.len-i-end.ensures)));
-      apart = subst AreApart (get_or-map (shape_in block.names) block.lines.items c.loop-i.i c.index.result.now shape (omega (arith, within, c.len-i-end.ensures)) ∙ ap (shape_in block.names) (sym c.index.ensures)) (c.requires.apart c.loop-i.i shape (omega (arith, within, c.len-i-end.ensures, length-map block.lines.items (shape_in block.names))));
-      known = so_far.known;
-    }
+pub returns-clause-fault : goal.returns-clause-fault
+returns-clause-fault c =
+    subst (λ lines. FailsShapes c.args.self.now c.args.lists.now (map (shape_in c.args.block.now.names) lines) c.take_lines.result) c.as_slice.ensures.value c.take_lines.ensures.fault
 
-pub loop-i-preserved : goal.loop-i-preserved
-loop-i-preserved c =
-    let so_far = c.loop-i.invariant in
-    let block = c.args.block.now in
-    let old = c.args.self.now in
-    let says = shape_in block.names in
-    let taken = c.in_ok-take_numbered.ensures in
-    let within : c.loop-i.i < length block.lines.items = omega (arith, c.loop-i-test.true, c.len-i-end.ensures) in
-    record {
-      taken = λ told judged listed.
-          subst (λ shapes. HasTakenShapes old.limits old.line told shapes c.take_numbered.new.self c.take_numbered.new.lists)
-          (sym (map_take_next says block.lines.items c.loop-i.i c.index.result.now within c.index.ensures))
-          (taken_push old.limits old.line told (map says (take c.loop-i.i block.lines.items)) (says c.index.result.now) c.loop-i.self c.take_numbered.new.self c.loop-i.lists c.take_numbered.new.lists (old.line + c.loop-i.i)
-          (so_far.taken told judged listed) (ap (λ n. old.line + n) (sym (length_map_take says block.lines.items c.loop-i.i (omega (arith, within))))) taken.tells so_far.limits so_far.line);
-      known = taken.known;
-      sound = taken.sound;
-      limits = c.take_numbered.ensures.limits ∙ so_far.limits;
-      line = omega (arith, taken.line, so_far.line);
-    }
-
--- a line is at fault
-pub returns-in_err-take_numbered-clause-fault : goal.returns-in_err-take_numbered-clause-fault
-returns-in_err-take_numbered-clause-fault c = λ number kind is told judged listed.
-    let so_far = c.loop-i.invariant in
-    let block = c.args.block.now in
-    let old = c.args.self.now in
-    let says = shape_in block.names in
-    let failed : c.take_numbered.result ≡ Err (Line number kind) = let was = c.in_err-take_numbered.was in let of = c.from_residual-in_err-take_numbered.ensures in grind (arith, common_steps, was, of, is) in
-    let taken = so_far.taken told judged listed in
-    let within : c.loop-i.i < length block.lines.items = omega (arith, c.loop-i-test.true, c.len-i-end.ensures) in
-    let rest = map_take_rest says block.lines.items c.loop-i.i c.index.result.now within c.index.ensures in
-    ap (after_shapes old.limits old.line told) rest.1
-    ∙ failed_push old.limits old.line told (map says (take c.loop-i.i block.lines.items)) rest.0 (says c.index.result.now) c.loop-i.self c.loop-i.lists (Line number kind) taken so_far.limits
-    (so_far.line ∙ ap (λ n. old.line + n) (sym (length_map_take says block.lines.items c.loop-i.i (omega (arith, within)))))
-    (c.take_numbered.ensures.fault number kind failed taken.later taken.judged taken.listed)
+pub returns-clause-right : goal.returns-clause-right
+returns-clause-right c =
+    let names = c.args.block.now.names in
+    let known = c.take_lines.new.known in
+    if_ok_then c.take_lines.result (IsKnownOf names c.take_lines.new.self.names known) _
+    (known_so_far names c.take_lines.new.self.names known (omega arith) (omega arith) (omega arith)) c.take_lines.ensures.known

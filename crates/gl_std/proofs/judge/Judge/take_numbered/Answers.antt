@@ -17,7 +17,18 @@ returns-in_err-judged-clause-fault c = λ number kind is told judged listed.
     let failed : c.judge_numbered.result ≡ Err (Line number kind) = let was = c.in_err-judged.was in let of = c.from_residual.ensures in grind (arith, common_steps, was, of, is) in
     ap (λ r. and_then r (λ more. Ok more)) (c.judge_numbered.ensures.judges.fault number kind failed told judged)
 
--- what was known of a block's names still is, where the line added some
+-- names keep their numbers where the line added some
+pub returns-clause-grows : goal.returns-clause-grows
+returns-clause-grows c =
+    let old = c.args.self.now in
+    let new = c.judge_numbered.new.self in
+    let was = c.requires.can.sound in
+    let judges = c.in_ok-judged.ensures.judges in
+    let told = with_judged c.in_ok-judged.judged new.names was.told in
+    grown_names old.names new.names was.told told was.judged.names (judges.judged was.told was.judged).names
+    (after_shape_grows old.limits old.line was.told told (shape_in c.args.names.now c.args.line) (judges.tells was.told was.judged))
+
+-- and what was known of a block's names still is
 pub returns-clause-known : goal.returns-clause-known
 returns-clause-known c =
     let old = c.args.self.now in

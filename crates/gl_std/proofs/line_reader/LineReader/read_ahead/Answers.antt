@@ -11,6 +11,7 @@ loop-ending-init g c = record {
   short = c.requires.short;
   not_failed = c.requires.can.not_failed;
   few = omega arith;
+  right = λ names spare pieces. (spare, pieces);
 }
 
 pub loop-ending-preserved : goal.loop-ending-preserved
@@ -25,11 +26,12 @@ loop-ending-preserved g c =
       short = c.in_ok-ending.ensures.adds.short;
       not_failed = more.gives.0;
       few = omega (arith, so_far.few, fewer);
+      right = λ names spare pieces. let before = so_far.right names spare pieces in c.in_ok-ending.ensures.right names before.0 before.1;
     }
 
 -- the source has ended, or can't be read on
-pub returns-in_default : goal.returns-in_default
-returns-in_default g c =
+pub returns-in_default-clause-adds : goal.returns-in_default-clause-adds
+returns-in_default-clause-adds g c =
     let so_far = c.loop-ending.invariant in
     let new = c.read_piece.new in
     record {
@@ -40,8 +42,8 @@ returns-in_default g c =
     }
 
 -- there are as many as were asked for
-pub returns-then-len-most : goal.returns-then-len-most
-returns-then-len-most g c =
+pub returns-then-len-most-clause-adds : goal.returns-then-len-most-clause-adds
+returns-then-len-most-clause-adds g c =
     let so_far = c.loop-ending.invariant in
     let new = c.read_piece.new in
     let more = subst (HasReadOn (g.R.Source.position c.loop-ending.input) c.loop-ending.self (text_of c.loop-ending.pieces.items) (g.R.Source.position new.input) (g.R.Source.failed new.input) new.self (text_of new.pieces.items)) c.in-More.is c.in_ok-ending.ensures.adds.reads in
@@ -52,3 +54,9 @@ returns-then-len-most g c =
       short = c.in_ok-ending.ensures.adds.short;
       fewer = λ _. omega (arith, so_far.few, fewer);
     }
+
+pub returns-in_default-clause-right : goal.returns-in_default-clause-right
+returns-in_default-clause-right g c = λ names spare pieces. let before = c.loop-ending.invariant.right names spare pieces in c.in_ok-ending.ensures.right names before.0 before.1
+
+pub returns-then-len-most-clause-right : goal.returns-then-len-most-clause-right
+returns-then-len-most-clause-right g c = λ names spare pieces. let before = c.loop-ending.invariant.right names spare pieces in c.in_ok-ending.ensures.right names before.0 before.1

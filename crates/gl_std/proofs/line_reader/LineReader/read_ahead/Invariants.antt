@@ -1,5 +1,5 @@
 use Rattle.std.proofs.Common.{◌≡◌, ◌≤◌, false}
-use Rattle.gl_std.specs.bodies.Ahead.{text_of, AreShort, HasReadOn}
+use Rattle.gl_std.specs.bodies.Ahead.{text_of, AreShort, HasReadOn, StayRight}
 use Rattle.gl_std.specs.bodies.Stepping.{OnlyReads}
 use Rattle.gl_std.specs.declared.line_reader.pieces.Ending.TheVariants.{More}
 use Rattle.gl_std.proofs.line_reader.LineReader.read_ahead.Given as goal
@@ -11,6 +11,7 @@ invariant-loop-ending g l = record {
   short : AreShort l.pieces.items;
   not_failed : g.R.Source.failed l.input ≡ false;
   few : l.self.turns ≤ l.initial.self.turns;
+  right : StayRight l.initial.spare.items l.initial.pieces.items l.spare.items l.pieces.items;
 }
 
 abbrev pub decreases-loop-ending : goal.decreases-loop-ending

@@ -13,6 +13,7 @@ invariant-loop-ending g l = record {
   room : length (bytes_of l.piece) + CHUNK ≤ LONGEST;
   not_failed : g.R.Source.failed l.input ≡ false;
   few : l.self.turns ≤ l.initial.self.turns;
+  block : l.piece.block ≡ l.initial.piece.block;
 }
 
 abbrev pub decreases-loop-ending : goal.decreases-loop-ending

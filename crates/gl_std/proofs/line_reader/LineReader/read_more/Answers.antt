@@ -9,8 +9,8 @@ use Rattle.gl_std.proofs.ReadBehind.{cut_behind, front_stays, read_broke_behind,
 use Rattle.gl_std.proofs.line_reader.LineReader.read_more.Goals as goal
 
 -- it met the end
-pub returns-in-Ok-eq0 : goal.returns-in-Ok-eq0
-returns-in-Ok-eq0 g c =
+pub returns-in-Ok-eq0-clause-filled : goal.returns-in-Ok-eq0-clause-filled
+returns-in-Ok-eq0-clause-filled g c =
     let read = c.in-Ok-eq0.ensures in
     let now = g.R.Source.position c.args.input.now in
     let later = g.R.Source.position c.read_behind.new.input in
@@ -30,8 +30,8 @@ returns-in-Ok-eq0 g c =
     }
 
 -- the read gave some bytes
-pub returns-in-Ok : goal.returns-in-Ok
-returns-in-Ok g c =
+pub returns-in-Ok-clause-filled : goal.returns-in-Ok-clause-filled
+returns-in-Ok-clause-filled g c =
     let read = c.in-Ok.ensures in
     let now = g.R.Source.position c.args.input.now in
     let later = g.R.Source.position c.read_behind.new.input in
@@ -52,8 +52,8 @@ returns-in-Ok g c =
     }
 
 -- it failed
-pub returns-in-Err : goal.returns-in-Err
-returns-in-Err g c =
+pub returns-in-Err-clause-filled : goal.returns-in-Err-clause-filled
+returns-in-Err-clause-filled g c =
     let read = c.in-Err.ensures in
     let now = g.R.Source.position c.args.input.now in
     let later = g.R.Source.position c.read_behind.new.input in

@@ -33,5 +33,6 @@ returns c =
         few = omega (arith, ap length c.in_ok-judged.ensures.ends.empty);
         same_limits = c.end_line.ensures.limits;
         lines = omega (arith, c.in_ok-judged.ensures.ends.line, length-append c.args.end.now (LF ∷ []));
+        grows = c.in_ok-judged.ensures.grows;
       };
     }

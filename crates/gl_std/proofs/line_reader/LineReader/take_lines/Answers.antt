@@ -8,7 +8,7 @@ use Rattle.gl_std.specs.bodies.Judgements.{AreApart}
 use Rattle.gl_std.specs.declared.faults.ReadFault.TheVariants.{Line}
 use Rattle.gl_std.specs.declared.line_reader.TheConstants.{KEPT}
 use Rattle.gl_std.proofs.LineByLine.{few_kept, fault_ended}
-use Rattle.gl_std.proofs.NumberedLines.{shapes_apart}
+use Rattle.gl_std.proofs.NumberedLines.{go_on_then, right_among, shapes_apart}
 use Rattle.gl_std.proofs.PieceByPiece.{first_end, with_end}
 use Rattle.gl_std.proofs.PiecesAhead.{between_few, between_is, end_parts, failed_lines, fault_front, taken_lines}
 use Rattle.gl_std.proofs.line_reader.LineReader.take_lines.Goals as goal
@@ -17,8 +17,8 @@ pub end_line-requires-clause-one_line : goal.end_line-requires-clause-one_line
 end_line-requires-clause-one_line c = (first_end c.args.piece.now c.args.end.now c.args.after.now c.requires.parts).1
 
 -- the line that ends is at fault
-pub returns-in_err-judged : goal.returns-in_err-judged
-returns-in_err-judged c =
+pub returns-in_err-judged-clause-judges : goal.returns-in_err-judged-clause-judges
+returns-in_err-judged-clause-judges c =
     let old = c.args.self.now in
     let cut = (first_end c.args.piece.now c.args.end.now c.args.after.now c.requires.parts).0 in
     let p = err_from_is_err_and c.from_residual.result c.from_residual.ensures.1 in
@@ -35,14 +35,17 @@ pub take_block-requires-clause-apart : goal.take_block-requires-clause-apart
 take_block-requires-clause-apart c =
     subst (λ shapes. (k : ℕ) (d : Shape) → k < length shapes → AreApart (get_or shapes k d)) (sym c.requires.block.says) (shapes_apart (lines (between c.args.piece.now)))
 
+pub take_block-requires-clause-right : goal.take_block-requires-clause-right
+take_block-requires-clause-right c = right_among c.args.block.now.names c.args.self.now.judge.names c.end_line.new.judge.names c.args.block.now.known c.in_ok-judged.ensures.grows c.requires.right
+
 pub take_block-requires-clause-countable : goal.take_block-requires-clause-countable
 take_block-requires-clause-countable c =
     let few = between_few c.args.piece.now c.args.end.now c.args.after.now c.requires.parts in
     omega (arith, few, c.requires.block.count, c.in_ok-judged.ensures.ends.line, c.requires.can.countable)
 
 -- a line of the block is at fault
-pub returns-in_err-take_block : goal.returns-in_err-take_block
-returns-in_err-take_block c =
+pub returns-in_err-take_block-clause-judges : goal.returns-in_err-take_block-clause-judges
+returns-in_err-take_block-clause-judges c =
     let piece = c.args.piece.now in
     let end = c.args.end.now in
     let after = c.args.after.now in
@@ -58,8 +61,8 @@ returns-in_err-take_block c =
       only = rw p.1 tt;
     }
 
-pub returns : goal.returns
-returns c =
+pub returns-clause-judges : goal.returns-clause-judges
+returns-clause-judges c =
     let piece = c.args.piece.now in
     let end = c.args.end.now in
     let after = c.args.after.now in
@@ -77,5 +80,6 @@ returns c =
         few = few_kept KEPT _ _ c.in_ok-keep.ensures.kept;
         same_limits = c.take_block.ensures.limits ∙ c.end_line.ensures.limits;
         lines = omega (arith, few, c.requires.block.count, c.in_ok-judged.ensures.ends.line, c.in_ok-take_block.ensures.line);
+        grows = go_on_then c.args.self.now.judge.names c.end_line.new.judge.names c.take_block.new.self.names c.in_ok-judged.ensures.grows c.in_ok-take_block.ensures.grows;
       };
     }

@@ -2,6 +2,7 @@ use Rattle.std.proofs.Common.{◌++◌, ◌∷◌, [], length, length-append, re
 use Rattle.std.proofs.lemmas.Grind.{common_steps}
 use Rattle.std.proofs.lemmas.Result.{err_from_is_err_and}
 use Rattle.gl_std.specs.Lines.{LF}
+use Rattle.gl_std.proofs.NumberedLines.{go_on_itself}
 use Rattle.gl_std.proofs.PieceByPiece.{first_end, no_end}
 use Rattle.gl_std.proofs.PiecesAhead.{failed_next, judged_last, only_next, parts_next, taken_next, taken_no_piece}
 use Rattle.gl_std.proofs.line_reader.LineReader.take_text.Goals as goal
@@ -11,7 +12,7 @@ loop-end-init c = record {
   front = [];
   parts = refl;
   taken = taken_no_piece c.args.self.now c.args.lists.now;
-  only = record { sound = c.requires.can.sound; few = c.requires.can.few; same_limits = refl; lines = omega arith };
+  only = record { sound = c.requires.can.sound; few = c.requires.can.few; same_limits = refl; lines = omega arith; grows = go_on_itself c.args.self.now.judge.names };
 }
 
 pub take_ended-requires-clause-one_line : goal.take_ended-requires-clause-one_line
