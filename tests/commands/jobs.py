@@ -3,11 +3,11 @@
 
     jobs.py [--cases N] [--seed N] PROGRAM
 
-Texts of up to some megabytes are read in many pieces, whose lines are cut and numbered by several threads: traces of
-bench/make_trace.py with blank lines, CR LF, words that aren't watched, long lines and faults put in anywhere, from a file and
-from a pipe that gives them in parts of any size, with an end of line at the end or without. What the command writes by one
-thread (which other tests compare with models) it has to write by two, three, four, nine and as many as there are
-processors, with the same status. The last line is `N passed, N failed`.
+Texts of up to some megabytes are read in many pieces, whose lines are cut and numbered by several threads, later ones with
+the names of those before: traces of bench/make_trace.py with blank lines, CR LF, words that aren't watched, long lines and
+faults put in anywhere, from a file and from a pipe that gives them in parts of any size, with an end of line at the end or
+without. What the command writes by one thread (which other tests compare with models) it has to write by two, three, four,
+nine and as many as there are processors, with the same status. The last line is `N passed, N failed`.
 """
 
 import argparse
@@ -43,7 +43,7 @@ def made_largest():
 
 def shape_of(rng):
     """The lines of a trace. The largest one is the same whatever its events and seed, and takes long to make."""
-    events, shape, seed = rng.choice((3, 50, 2000, 20000, 60000)), rng.choice(SHAPES), rng.randrange(1000)
+    events, shape, seed = rng.choice((3, 50, 2000, 20000, 60000, 250000)), rng.choice(SHAPES), rng.randrange(1000)
     if shape == LARGEST:
         return [*made_largest()]
     return made("--shape", shape, "--events", str(events), "--seed", str(seed))
