@@ -69,7 +69,8 @@ impl Block {
         ensures few { AreFew result }
         ensures none { shapes_of result ≡ [] }
         ensures count { vec_len result.lines ≡ 0 }
-        ensures right { (names : NameLists) → IfSome spare (IsRight names) → IsRight names result }
+        ensures right { (names : NameLists) → IfSome spare (IsRight names)
+            → IsRight names result }
     {
         match spare {
             Some(mut block) => {
@@ -107,7 +108,8 @@ impl Block {
         requires short { length piece.now ≤ LONGEST }
         ensures says { IfOk result (IsBlockOf piece.now) }
         ensures right { IfOk result
-            (λ block. (names : NameLists) → IfSome spare (IsRight names) → IsRight names block) }
+            (λ block. (names : NameLists) → IfSome spare (IsRight names)
+            → IsRight names block) }
     {
         let mut block = Block::empty(alloc, seed, spare);
         match cut(piece, LF) {

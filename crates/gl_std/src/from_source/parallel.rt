@@ -67,7 +67,8 @@ fn cut_all<R: Threads + Sync>(rt: &R, cutters: Cutters, pieces: &mut [Piece])
     ensures cut { AreCut pieces.new }
     ensures short { AreShort pieces.new }
     ensures same { text_of pieces.new ≡ text_of pieces.old }
-    ensures right { (names : NameLists) → AreRight names pieces.old → AreRight names pieces.new }
+    ensures right { (names : NameLists) → AreRight names pieces.old
+        → AreRight names pieces.new }
 {
     thread::for_each_mut(
         rt,
