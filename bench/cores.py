@@ -23,7 +23,8 @@ import time
 from beside import FOLDER, HERE, run, trace_of
 
 SHAPES = (
-    "few-locks,many-locks,long-names,deep-nesting,many-cycles,none,readers,forks,item-locks,long-sections,connections"
+    "few-locks,many-locks,long-names,deep-nesting,many-cycles,none,readers,forks,item-locks,long-sections,connections,"
+    "lock-table"
 )
 OPTIONS = ["--mode", "full", "--len", "4", "--max", "1000"]
 PEERS = ("plain", "tuned")
@@ -72,7 +73,7 @@ def options_of(words):
     parser = argparse.ArgumentParser(description=__doc__, formatter_class=argparse.RawDescriptionHelpFormatter)
     parser.add_argument("--runs", type=int, default=5)
     parser.add_argument("--events", type=int, default=1_000_000)
-    parser.add_argument("--shapes", default=SHAPES + ",lock-table")
+    parser.add_argument("--shapes", default=SHAPES)
     parser.add_argument("--files", default=",".join(sorted(glob.glob(os.path.join(HERE, "traces", "*.std.xz")))))
     parser.add_argument("--jobs", default="1,2,3,4")
     parser.add_argument("--words", default="predict")
