@@ -1,6 +1,6 @@
 -- Lines by numbers in place of names.
 use Rattle.std.proofs.Common.{◌≡◌, ℕ, zero, suc, ◌+◌, ◌<◌, ◌≤◌, Bool, true, false, position, List, [], ◌∷◌, ◌++◌, length, map, take, Option, Some, None, Result, Ok, Err, get_or, refl, sym, ap, subst, ◌∙◌, length-append, add-zero, add-one, cond, inl, inr, arith}
-use Rattle.std.specs.Prelude.{slice_get, slice_set, vec_len, OnOk}
+use Rattle.std.specs.Prelude.{slice_get, slice_set, OnOk}
 use Rattle.std.specs.Str.{bytes_eq}
 use Rattle.std.proofs.lemmas.Bool.{cases_eq, cases_lt}
 use Rattle.std.proofs.lemmas.List.{get_or_append_left, get_or-set_same, get_or-set_other, length-set}
@@ -166,17 +166,6 @@ place_front name names later i front is =
 pub known_later : (block names later : List (List ℕ)) (known : List (Option ℕ)) → IsFront names later → AreKnown block names known → AreKnown block later known
 known_later block names later known front are number found is = place_front (named block number) names later found front (are number found is)
 
-pub known_of_later : (block old new : NameLists) (known : Known) → GoOn old new → IsKnownOf block old known → IsKnownOf block new known
-known_of_later block old new known on are =
-    record {
-      threads = known_later block.threads old.threads new.threads known.threads.items on.threads are.threads;
-      locks = known_later block.locks old.locks new.locks known.locks.items on.locks are.locks;
-      locs = known_later block.locs old.locs new.locs known.locs.items on.locs are.locs;
-      all_threads = are.all_threads;
-      all_locks = are.all_locks;
-      all_locs = are.all_locs;
-    }
-
 -- the numbers of names that were there stay known where a block gets names, if those have none yet
 known_on : (block later names : List (List ℕ)) (known : List (Option ℕ)) → IsFront block later → length known ≤ length block → AreKnown block names known → AreKnown later names known
 known_on block later names known front few are number found is =
@@ -206,16 +195,13 @@ right_among block old new known on are =
       some_locs = are.some_locs;
     }
 
--- where each name has its place, some have
-pub known_so_far : (block names : NameLists) (known : Known) → length known.threads.items ≡ vec_len known.threads → length known.locks.items ≡ vec_len known.locks → length known.locs.items ≡ vec_len known.locs → IsKnownOf block names known → IsKnownSoFar block names known
-known_so_far block names known threads locks locs are =
+pub known_of_later : (block old new : NameLists) (known : Known) → GoOn old new → IsKnownOf block old known → IsKnownOf block new known
+known_of_later block old new known on are =
     record {
-      threads = are.threads;
-      locks = are.locks;
-      locs = are.locs;
-      some_threads = omega (arith, threads, are.all_threads);
-      some_locks = omega (arith, locks, are.all_locks);
-      some_locs = omega (arith, locs, are.all_locs);
+      so_far = right_among block old new known on are.so_far;
+      all_threads = are.all_threads;
+      all_locks = are.all_locks;
+      all_locs = are.all_locs;
     }
 
 pub if_ok_then : (r : Result (Unit {0}) ReadFault) (p q : Type 0) → (p → q) → OnOk r p → OnOk r q

@@ -15,21 +15,17 @@ use Rattle.gl_std.specs.declared.line_reader.pieces.Ending.TheVariants.{More, En
 use Rattle.gl_std.proofs.LineByLine.{broken_by, filled_buffer}
 use Rattle.gl_std.proofs.PiecesAhead.{read_on_broke, read_on_end, read_on_more}
 
--- what a text that was made longer begins with
-pub longer_first : (text zeros : List ℕ) (n : ℕ) → length text ≤ n → take (length text) (take n text ++ zeros) ≡ text
-longer_first text zeros n more = ap (λ t. take (length text) (t ++ zeros)) (take_all n text more) ∙ take-append_seam text zeros
+-- a text that was made longer begins as it did
+pub longer_begins : (text zeros longer : List ℕ) (first : ℕ) → first ≡ length text → longer ≡ take (first + CHUNK) text ++ zeros → take first longer ≡ text
+longer_begins text zeros longer first is made =
+    ap (take first) made ∙ ap (λ n. take n (take (first + CHUNK) text ++ zeros)) is
+    ∙ ap (λ t. take (length text) (t ++ zeros)) (take_all (first + CHUNK) text (omega (arith, is)))
+    ∙ take-append_seam text zeros
 
--- a text that was made longer and then read into behind its first bytes
-module _ (text zeros longer lent read : List ℕ) (first : ℕ) (is_first : first ≡ length text) (made : longer ≡ take (first + CHUNK) text ++ zeros) (lends : lent ≡ longer) (front : take first read ≡ take first lent) where
-  -- it begins as it did
-  pub front_stays : take first read ≡ text
-  front_stays =
-      front ∙ ap (take first) (lends ∙ made) ∙ ap (λ n. take n (take (first + CHUNK) text ++ zeros)) is_first
-      ∙ longer_first text zeros (first + CHUNK) (omega (arith, is_first))
-
-  -- and is cut off behind what was read
-  pub cut_behind : (count : ℕ) → take (first + count) read ≡ text ++ take count (drop first read)
-  cut_behind count = take-add first count read ∙ ap (λ t. t ++ take count (drop first read)) front_stays
+-- one that was read into behind its first bytes is cut off behind what was read
+pub cut_behind : (text lent read : List ℕ) (first count : ℕ) → lent ≡ text → take first read ≡ take first lent → take (first + count) read ≡ take first text ++ take count (drop first read)
+cut_behind text lent read first count lends front =
+    take-add first count read ∙ ap (λ t. t ++ take count (drop first read)) (front ∙ ap (take first) lends)
 
 module _ (now later : Position) (old new : LineReader) (before : List ℕ) (failed : Bool) (left : 0 < old.turns) (turn : new.turns + 1 ≡ old.turns) (one : LieBetween 1 now later) where
   -- it gave these bytes

@@ -127,15 +127,6 @@ impl Block {
         self.added() <= self.lines.len() as u64 / 2
     }
 
-    /// Whether cutting pieces ahead pays, as far as this one tells. All names of the first ones are new: they tell that
-    /// it doesn't where they have more names than lines.
-    pub(crate) fn may_pay(&self) -> bool {
-        if self.before == 0 {
-            return self.added() <= self.lines.len() as u64;
-        }
-        self.pays()
-    }
-
     // How many names its lines have that weren't there before.
     fn added(&self) -> u64 {
         self.names.count().saturating_sub(self.before)

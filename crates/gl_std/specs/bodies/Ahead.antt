@@ -88,6 +88,12 @@ pub record HasReadOn (now : Position) (old : LineReader) (before : List ℕ) (la
   pub gives : GivesOn now old later failed new gave ending
   pub within : length gave + turns_left new ending * CHUNK ≤ old.turns * CHUNK
 
+-- of the reads that may be made one fewer is left
+pub record HasTakenTurn (old new : LineReader) : Type 0 where
+  pub room : vec_len old.buffer ≡ CHUNK
+  pub left : 0 < old.turns
+  pub turn : new.turns + 1 ≡ old.turns
+
 -- it was added to what is short, as this says, and nothing was judged; where there may be more, fewer reads are left
 pub record HasReadAhead (now : Position) (old : LineReader) (before : List ℕ) (later : Position)
     (failed : Bool) (new : LineReader) (after : List ℕ) (are_short : Type 0) (ending : Ending)

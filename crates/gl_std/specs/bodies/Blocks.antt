@@ -99,16 +99,7 @@ abbrev pub AreKnown : List (List ℕ) → List (List ℕ) → List (Option ℕ) 
 AreKnown block names known = (number found : ℕ) → slice_get known number ≡ Some (Some found)
     → position (bytes_eq (named block number)) names ≡ Some found
 
--- the same of names of each kind, of which each has its place
-pub record IsKnownOf (block names : NameLists) (known : Known) : Type 0 where
-  pub threads : AreKnown block.threads names.threads known.threads.items
-  pub locks : AreKnown block.locks names.locks known.locks.items
-  pub locs : AreKnown block.locs names.locs known.locs.items
-  pub all_threads : vec_len known.threads ≡ length block.threads
-  pub all_locks : vec_len known.locks ≡ length block.locks
-  pub all_locs : vec_len known.locs ≡ length block.locs
-
--- the same where those that were added last have none yet
+-- the same of names of each kind, where those that were added last may have no place yet
 pub record IsKnownSoFar (block names : NameLists) (known : Known) : Type 0 where
   pub threads : AreKnown block.threads names.threads known.threads.items
   pub locks : AreKnown block.locks names.locks known.locks.items
@@ -116,6 +107,13 @@ pub record IsKnownSoFar (block names : NameLists) (known : Known) : Type 0 where
   pub some_threads : length known.threads.items ≤ length block.threads
   pub some_locks : length known.locks.items ≤ length block.locks
   pub some_locs : length known.locs.items ≤ length block.locs
+
+-- and where each has its place
+pub record IsKnownOf (block names : NameLists) (known : Known) : Type 0 where
+  pub so_far : IsKnownSoFar block names known
+  pub all_threads : vec_len known.threads ≡ length block.threads
+  pub all_locks : vec_len known.locks ≡ length block.locks
+  pub all_locs : vec_len known.locs ≡ length block.locs
 
 -- the numbers that a block knows of its names are those among these
 abbrev pub IsRight : NameLists → Block → Type 0

@@ -397,8 +397,8 @@ fn read_ahead<T: Threads + Sync, R: Source>(
 /// calling thread reads, cuts and judges line by line, since two would wait for each other. So it does where the text
 /// ends in its first half megabyte, and from where it is seen that most names are new.
 ///
-/// Err where memory was refused. Beside what [`read_source`] keeps in memory, there is a megabyte of the text for
-/// each thread, cut into lines, and twice as many of its names as 131,072 at most, beside those of that megabyte.
+/// Err where memory was refused. Beside what [`read_source`] keeps in memory, there are two pieces of half a megabyte
+/// for each thread that cuts: the text of each, cut into lines, and a table of at most 131,072 names beside its own.
 pub fn read_source_parallel<T: Threads + Sync, R: Source>(
     rt: &T,
     alloc: Global,

@@ -7,7 +7,7 @@ ghost use Rattle.gl_io.specs.declared.source.TheConstants.{CHUNK};
 ghost use Rattle.gl_std.specs.Line.{cut_at};
 ghost use Rattle.gl_std.specs.Lines.{LF};
 ghost use Rattle.gl_std.specs.Names.{NameLists};
-ghost use Rattle.gl_std.specs.bodies.Ahead.{bytes_of, text_of, AreShort, CanJudge, CanJudgeText, AreRight, HasAddedPieces, HasFilledPiece, HasGoneOn, IsCut, IsRightPiece, IsShort, JudgesText, StayRight};
+ghost use Rattle.gl_std.specs.bodies.Ahead.{bytes_of, text_of, AreRight, AreShort, CanJudge, CanJudgeText, HasAddedPieces, HasFilledPiece, HasGoneOn, HasReadOn, HasTakenTurn, IsCut, IsRightPiece, IsShort, JudgesText, StayRight};
 ghost use Rattle.gl_std.specs.bodies.Blocks.{IsBlockOf, IsRight};
 ghost use Rattle.gl_std.specs.bodies.Judgements.{CanJudgeLine};
 ghost use Rattle.gl_std.specs.bodies.States.{IsSound};
@@ -90,10 +90,10 @@ impl Piece {
         };
     }
 
-    /// Whether cutting pieces ahead pays, as far as this one tells.
+    /// Whether cutting pieces ahead pays, as far as this one tells: nothing is known of one that wasn't cut.
     pub(crate) fn may_pay(&self) -> bool {
         match &self.block {
-            Some(block) => block.may_pay(),
+            Some(block) => block.pays(),
             None => true,
         }
     }
@@ -114,6 +114,32 @@ fn read_behind<R: Source>(input: &mut R, buffer: &mut [u8], first: usize) -> Res
     ensures failed { R.failed input.new ≡ is_err result }
 {
     input.read(&mut buffer[first..])
+}
+
+// One read into the room behind the first bytes of a text, so many, which stay as they are. What it doesn't fill is
+// cut off.
+fn read_onto<R: Source>(input: &mut R, text: &mut Vec<u8>, first: usize) -> Ending
+    requires not_failed { R.failed input.old ≡ false }
+    requires room { vec_len text.old ≡ first + CHUNK }
+    ensures gave { (before later : LineReader) → HasTakenTurn before later
+        → HasReadOn (R.position input.old) before (take first text.old.items)
+        (R.position input.new) (R.failed input.new) later text.new.items result }
+    ensures short { vec_len text.new ≤ first + CHUNK }
+{
+    match read_behind(input, text.as_mut_slice(), first) {
+        Ok(0) => {
+            text.truncate(first);
+            Ending::End
+        }
+        Ok(count) => {
+            text.truncate(first + count);
+            Ending::More
+        }
+        Err(Failed) => {
+            text.truncate(first);
+            Ending::Broke
+        }
+    }
 }
 
 impl LineReader {
@@ -212,20 +238,7 @@ impl LineReader {
         let first = piece.text.len();
         piece.text.resize(first + CHUNK, 0)?;
         self.turns -= 1;
-        match read_behind(input, piece.text.as_mut_slice(), first) {
-            Ok(0) => {
-                piece.text.truncate(first);
-                Ok(Ending::End)
-            }
-            Ok(count) => {
-                piece.text.truncate(first + count);
-                Ok(Ending::More)
-            }
-            Err(Failed) => {
-                piece.text.truncate(first);
-                Ok(Ending::Broke)
-            }
-        }
+        Ok(read_onto(input, &mut piece.text, first))
     }
 
     /// Goes on from what the other reader has judged, where nothing is left that this one has read.

@@ -1,6 +1,6 @@
-use Rattle.std.proofs.Common.{map, subst, arith}
+use Rattle.std.proofs.Common.{map, subst}
 use Rattle.gl_std.specs.bodies.Blocks.{shape_in, FailsShapes, IsKnownOf}
-use Rattle.gl_std.proofs.NumberedLines.{if_ok_then, known_so_far}
+use Rattle.gl_std.proofs.NumberedLines.{if_ok_then}
 use Rattle.gl_std.proofs.judge.Judge.take_block.Goals as goal
 
 pub returns-clause-fault : goal.returns-clause-fault
@@ -10,6 +10,4 @@ returns-clause-fault c =
 pub returns-clause-right : goal.returns-clause-right
 returns-clause-right c =
     let names = c.args.block.now.names in
-    let known = c.take_lines.new.known in
-    if_ok_then c.take_lines.result (IsKnownOf names c.take_lines.new.self.names known) _
-    (known_so_far names c.take_lines.new.self.names known (omega arith) (omega arith) (omega arith)) c.take_lines.ensures.known
+    if_ok_then c.take_lines.result (IsKnownOf names c.take_lines.new.self.names c.take_lines.new.known) _ (λ are. are.so_far) c.take_lines.ensures.known
