@@ -165,6 +165,27 @@ fn leave_out_in_rounds(
     Ok(())
 }
 
+// Leaves out edges of a part that are too far, and then those that have no way back, as long as there are any and the search for them
+// may go on. Locks have so many numbers.
+fn leave_out_along_ways(
+    sought: &Sought<'_>,
+    alloc: Global,
+    part: Part,
+    locks: usize,
+    ends: &[Ends],
+    kept: &mut Vec<bool>,
+) -> Result<(), Memory>
+    requires kept { KeepsSought sought.now kept.old.items }
+    requires ended { length ends.now ≡ length sought.now.table.now }
+    requires numbered { IsNumbered (edges_of_table sought.now.table.now) ends.now }
+    ensures { OnOk result (GoesOnSeeking sought.now kept.old.items kept.new.items) }
+{
+    let budget = part.share_of(BUDGET);
+    let mut ways = Ways::new(alloc, sought, locks, ends, kept, budget)?;
+    leave_out_far(sought, part, &mut ways, budget, ends, kept)?;
+    leave_out_in_rounds(sought, part, &mut ways, ends, kept)
+}
+
 /// Leaves out edges of a part that have no way back, as long as there are any and the search for
 /// them may go on. Err where memory was refused.
 pub fn leave_out_without_way(
@@ -178,8 +199,5 @@ pub fn leave_out_without_way(
 {
     let numbers = Numbers::of(alloc, sought.table)?;
     let ends = numbers.of_edges(alloc, sought.table)?;
-    let budget = part.share_of(BUDGET);
-    let mut ways = Ways::new(alloc, sought, numbers.count(), &ends, kept, budget)?;
-    leave_out_far(sought, part, &mut ways, budget, &ends, kept)?;
-    leave_out_in_rounds(sought, part, &mut ways, &ends, kept)
+    leave_out_along_ways(sought, alloc, part, numbers.count(), &ends, kept)
 }
