@@ -1,5 +1,5 @@
 //! The edges of whole lists of events, by several threads.
-ghost use Rattle.std.specs.Prelude.{◌≡◌, ◌≤◌, ◌<◌, ◌+◌, map, length, IfOk};
+ghost use Rattle.std.specs.Prelude.{◌≡◌, ◌≤◌, ◌<◌, ◌+◌, ⊤, map, length, IfOk, Ok};
 ghost use Rattle.std.specs.List.{flat_map};
 ghost use Rattle.gl_event.specs.Bounds.{greatest};
 ghost use Rattle.gl_event.specs.Lawful.{AreLawful, lists_of};
@@ -61,6 +61,19 @@ fn deal(alloc: Global, lists: &[Vec<Event>], even: usize) -> Result<Vec<Share>, 
     Ok(shares)
 }
 
+// What a chain gives for each of its items, in order, where each answers. Each item may have a thread of its own.
+fn gathered<I: IndexedParallelIterator<Item = Result<EdgeList, Memory>>>(
+    rt: &(impl Threads + Sync),
+    alloc: Global,
+    chain: I,
+) -> Result<Vec<EdgeList>, Memory>
+    requires ready { I.each chain (λ _. ⊤) }
+    ensures { IfOk result (λ pieces. I.gives chain (map Ok pieces.items)) }
+{
+    let found: Result<Vec<EdgeList>, Memory> = chain.with_min_len(1).collect(rt, alloc)?;
+    found
+}
+
 // For each share of the lists its edges, by several threads.
 fn edges_of_each(
     rt: &(impl Threads + Sync),
@@ -73,20 +86,16 @@ fn edges_of_each(
     ensures { IfOk result
         (λ pieces. pieces.items ≡ map (edges_of_share (lists_of lists.now)) shares.now) }
 {
-    let found: Result<Vec<EdgeList>, Memory> = shares
-        .par_iter()
-        .map(
-            |share: &Share| -> Result<EdgeList, Memory>
-                requires { (share.now.from ≤ share.now.to)
-                    × (share.now.to ≤ length lists.now)
-                    × AreLawful greatest (lists_of lists.now) }
-                ensures { IfOk result
-                    (λ l. l ≡ edges_of_share (lists_of lists.entry.now) share.now) }
-            { edges_from(alloc, share.from as u32, &lists[share.from..share.to]) },
-        )
-        .with_min_len(1)
-        .collect(rt, alloc)?;
-    found
+    let chain = shares.par_iter().map(
+        |share: &Share| -> Result<EdgeList, Memory>
+            requires { (share.now.from ≤ share.now.to)
+                × (share.now.to ≤ length lists.now)
+                × AreLawful greatest (lists_of lists.now) }
+            ensures { IfOk result
+                (λ l. l ≡ edges_of_share (lists_of lists.entry.now) share.now) }
+        { edges_from(alloc, share.from as u32, &lists[share.from..share.to]) },
+    );
+    gathered(rt, alloc, chain)
 }
 
 // The pairs of all lists, one list after the other.
