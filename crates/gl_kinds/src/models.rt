@@ -90,14 +90,19 @@ pub(crate) fn models_of(
     }
     let kinds = kinds_of(alloc, table, kept, grain)?;
     let mut model_of_each = vec![in alloc; 0; table.len()]?;
+    put_each(&mut model_of_each, &kinds);
+    Ok(model_of_each)
+}
+
+// Puts down the model of the edge of each of these kinds, of which those that are alike follow one another.
+fn put_each(model_of_each: &mut Vec<usize>, kinds: &[Kind]) {
     let mut first = 0;
     for i in 0..kinds.len() {
-        if !are_alike(&kinds, first, i) {
+        if !are_alike(kinds, first, i) {
             first = i;
         }
-        put(&mut model_of_each, &kinds, first, i);
+        put(model_of_each, kinds, first, i);
     }
-    Ok(model_of_each)
 }
 
 // Whether the kinds at these places are one.
