@@ -1,5 +1,5 @@
 //! The recorder of a running thread.
-ghost use Rattle.std.specs.Prelude.{◌≡◌, ◌<◌, ◌≤◌, ◌+◌, ◌∷◌, ◌++◌, false, None, [], length, IfOk, IfErr};
+ghost use Rattle.std.specs.Prelude.{◌≡◌, ◌<◌, ◌≤◌, ◌+◌, ◌∷◌, ◌++◌, ◌↔◌, false, None, [], length, IfOk, IfErr, IsTrue};
 ghost use Rattle.gl_event.specs.Lawful.{IsLawful};
 ghost use Rattle.gl_intake.specs.Stream.{has_ended};
 ghost use Rattle.gl_engine.specs.Recording.{recorded, refusal_of, next_note, closed_of, HasTaken};
@@ -138,6 +138,36 @@ impl Recorder {
         self.try_record(&event)
     }
 
+    /// Whether there is certainly room for an event. Where there isn't, the collector may have made some since, and
+    /// `record` looks. It takes one step.
+    #[inline(always)]
+    pub fn has_room(&self) -> bool
+        ensures { IsTrue result ↔ (0 < self.now.room) }
+    {
+        self.lane.has_room()
+    }
+
+    /// Records the thread's next event, for which there is certainly room (`has_room`), and answers its place in the
+    /// thread's list. Err where the event may not come next: the recorder is as it was then.
+    ///
+    /// It takes no memory, and looks once through the at most 64 locks that the thread holds.
+    #[inline(always)]
+    pub fn record_known(&mut self, event: Event) -> Result<u32, Refusal>
+        requires known { 0 < self.old.room }
+        ensures taken { IfOk result (λ place. HasTaken self.old event place self.new) }
+        ensures refused { IfErr result
+            (λ why. IsNotRecorded self.old event (Refused why) self.new) }
+    {
+        match self.taker.take(event) {
+            Ok(note) => {
+                let place = note.place;
+                self.lane.push_known(note);
+                Ok(place)
+            }
+            Err(refusal) => Err(refusal),
+        }
+    }
+
     /// Records the thread's next event as soon as there is room for it, and answers its place in the
     /// thread's list. Err where the event may not come next: the recorder is as it was then.
     ///
@@ -212,27 +242,14 @@ impl Recorder {
     fn try_record(&mut self, event: &Event) -> Result<u32, RecordFault>
         ensures { HasTried self.old event.now result self.new }
     {
-        if self.lane.has_room() {
-            return self.record_known(event);
+        if self.has_room() {
+            return match self.record_known(*event) {
+                Ok(place) => Ok(place),
+                Err(refusal) => Err(RecordFault::Refused(refusal)),
+            };
         }
         match self.taker.check(*event) {
             Ok(note) => self.push(event, &note),
-            Err(refusal) => Err(RecordFault::Refused(refusal)),
-        }
-    }
-
-    // Records the event, where it may come next: there is certainly room for it. The held locks are
-    // looked through once.
-    fn record_known(&mut self, event: &Event) -> Result<u32, RecordFault>
-        requires known { 0 < self.old.room }
-        ensures { HasTried self.old event.now result self.new }
-    {
-        match self.taker.take(*event) {
-            Ok(note) => {
-                let place = note.place;
-                self.lane.push_known(note);
-                Ok(place)
-            }
             Err(refusal) => Err(RecordFault::Refused(refusal)),
         }
     }
