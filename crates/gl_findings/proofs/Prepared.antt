@@ -2,7 +2,7 @@
 use Rattle.std.proofs.Common.{◌≡◌, ℕ, suc, ◌+◌, ◌-◌, ◌<◌, ◌≤◌, Bool, true, false, cond, List, [], ◌∷◌, ◌++◌, length, take, get_or, Option, Some, None, refl, sym, ap, subst, ◌∙◌, arith, inl, inr}
 use Rattle.std.specs.Prelude.{slice_get, is_some, MatchOption}
 use Rattle.std.proofs.lemmas.Bool.{cases_lt, false≢true}
-use Rattle.std.proofs.lemmas.List.{append-nil, append_assoc, length-map, take_all}
+use Rattle.std.proofs.lemmas.List.{append-nil, append_assoc, length-append, length-map, take_all}
 use Rattle.std.proofs.lemmas.Option.{slice_get-get_or}
 use Rattle.gl_segments.specs.Clocks.{is_before}
 use Rattle.gl_filters.specs.Picked.{edges_of_table}
@@ -87,10 +87,17 @@ module _ (s : Finder) (ready : IsReady s) where
       (rw (r.same_order, r.same_mode, r.same_table, r.same_classes) at none))
 
   -- nor does anything go on from one that may be no longer
-  pub none_open : (signature : List ℕ) (class : ℕ) → length signature + 1 ≡ s.len → finding_of s (signature ++ class ∷ []) ≡ [] → block_of s (s.len - length signature - 1) (signature ++ class ∷ []) ≡ []
-  none_open signature class full none =
-      let left : 0 ≡ s.len - length signature - 1 = omega (arith, full) in
-      subst (λ n. block_of s n (signature ++ class ∷ []) ≡ []) left (block-zero (is_before s.order.now) s.mode s.len s.table.now (signature ++ class ∷ []) ∙ none)
+  pub none_open : (signature : List ℕ) → length signature ≡ s.len → finding_of s signature ≡ [] → block_of s (s.len - length signature) signature ≡ []
+  none_open signature full none =
+      let left : 0 ≡ s.len - length signature = omega (arith, full) in
+      subst (λ n. block_of s n signature ≡ []) left (block-zero (is_before s.order.now) s.mode s.len s.table.now signature ∙ none)
+
+  -- and what holds of a signature with one class more
+  pub none_longer : (signature longer : List ℕ) (class : ℕ) → longer ≡ signature ++ class ∷ [] → block_of s (s.len - length longer) longer ≡ [] → block_of s (s.len - length signature - 1) (signature ++ class ∷ []) ≡ []
+  none_longer signature longer class is none =
+      let long = length-append signature (class ∷ []) in
+      let left : s.len - length (signature ++ class ∷ []) ≡ s.len - length signature - 1 = omega (arith, long) in
+      subst (λ n. block_of s n (signature ++ class ∷ []) ≡ []) left (subst (λ l. block_of s (s.len - length l) l ≡ []) is none)
 
   -- what has room stays as it is where there is nothing more
   pub nothing_more : (old more : List (List ℕ)) → length old ≤ s.cap → more ≡ [] → old ≡ take s.cap (old ++ more)

@@ -78,6 +78,36 @@ impl Drop for Finder<'_> {
     }
 }
 
+// The walkers of a search: among edges that are kept, and among their models.
+#[derive(Drop)]
+struct Walkers<'a> {
+    kept: Walker<'a>,
+    models: Walker<'a>,
+}
+
+impl<'a> Walkers<'a> {
+    // Those over these grounds.
+    fn of(
+        alloc: Global,
+        kept: Ground<'a>,
+        models: Ground<'a>,
+        is_bound: bool,
+    ) -> Result<Walkers<'a>, Memory>
+        requires kept_classes { length kept.classes.now ≡ length kept.table.now }
+        requires kept_flags { length kept.flags.now ≡ length kept.table.now }
+        requires models_classes { length models.classes.now ≡ length models.table.now }
+        requires models_flags { length models.flags.now ≡ length models.table.now }
+        ensures kept { IfOk result (λ walkers. walkers.kept.ground ≡ kept.entry) }
+        ensures models { IfOk result (λ walkers. walkers.models.ground ≡ models.entry) }
+        ensures kept_bound { IfOk result (λ walkers. walkers.kept.is_bound ≡ is_bound) }
+        ensures models_bound { IfOk result (λ walkers. walkers.models.is_bound ≡ is_bound) }
+    {
+        let kept = Walker::of(alloc, kept, is_bound)?;
+        let models = Walker::of(alloc, models, is_bound)?;
+        Ok(Walkers { kept, models })
+    }
+}
+
 impl<'a> Finder<'a> {
     /// The search for the findings of a query, up to one more than are listed, which may be bound to steps.
     pub(crate) fn of(
@@ -118,14 +148,13 @@ impl<'a> Finder<'a> {
             classes,
             flags: grounds.models.as_slice(),
         };
-        let among_kept = Walker::of(alloc, kept, is_bound)?;
-        let among_models = Walker::of(alloc, models, is_bound)?;
+        let walkers = Walkers::of(alloc, kept, models, is_bound)?;
         Ok(Finder {
             table,
             order,
             mode,
-            among_kept,
-            among_models,
+            among_kept: walkers.kept,
+            among_models: walkers.models,
             next: grounds.next.as_slice(),
             runners: grounds.runners.as_slice(),
             passages: &grounds.passages,
@@ -236,11 +265,7 @@ impl Finder<'_> {
         if found.len() >= self.cap {
             return Ok(());
         }
-        self.add_shown(alloc, signature, spans, steps, found)?;
-        if signature.len() == self.len {
-            return Ok(());
-        }
-        if is_full(self.longest, signature) {
+        if !self.add_own(alloc, signature, spans, steps, found)? {
             return Ok(());
         }
         let reached = self.reached(alloc, signature, spans, steps)?;
@@ -313,13 +338,67 @@ impl Finder<'_> {
             return Ok(());
         }
         let longer = longer(signature, class);
-        if longer.len() == self.len && !self.may_close(longer.as_slice()) {
-            return Ok(());
-        }
-        if !self.may_begin(alloc, longer.as_slice(), spans, steps)? {
+        if !self.may_grow(alloc, longer.as_slice(), spans, steps)? {
             return Ok(());
         }
         self.grow(alloc, longer.as_slice(), spans, steps, found)
+    }
+
+    // Adds the finding of a signature, where it has one. Whether signatures of findings may go on from this one, as far as its length
+    // tells.
+    fn add_own(
+        &self,
+        alloc: Global,
+        signature: &[usize],
+        spans: &Spans,
+        steps: &mut usize,
+        found: &mut Vec<Vec<usize>>,
+    ) -> Result<bool, Stop>
+        requires some { 0 < length signature.now }
+        requires short { length signature.now ≤ self.now.len }
+        requires ready { IsReady self.now }
+        requires spans { HasSpans self.now signature.now spans.now }
+        requires room { length found.old.items < self.now.cap }
+        ensures own { IfOk result
+            (λ goes_on. cycles_in found.new.items
+            ≡ cycles_in found.old.items ++ finding_of self.now signature.now) }
+        ensures short { IfOk result
+            (λ goes_on. goes_on ≡ true → length signature.now < self.now.len) }
+        ensures whole { IfOk result
+            (λ goes_on. goes_on ≡ false
+            → AreAdded self.now
+            (block_of self.now (self.now.len - length signature.now) signature.now)
+            (cycles_in found.old.items) (cycles_in found.new.items)) }
+        ensures stopped { IfErr result (λ stop. IsUnbound self.now → stop ≡ Memory) }
+    {
+        self.add_shown(alloc, signature, spans, steps, found)?;
+        if signature.len() == self.len {
+            return Ok(false);
+        }
+        Ok(!is_full(self.longest, signature))
+    }
+
+    // Whether there may be findings whose signature begins with this one.
+    fn may_grow(
+        &self,
+        alloc: Global,
+        signature: &[usize],
+        spans: &Spans,
+        steps: &mut usize,
+    ) -> Result<bool, Stop>
+        requires some { 0 < length signature.now }
+        requires short { length signature.now ≤ self.now.len }
+        requires ready { IsReady self.now }
+        requires spans { HasSpans self.now signature.now spans.now }
+        ensures none { IfOk result
+            (λ may. may ≡ false
+            → block_of self.now (self.now.len - length signature.now) signature.now ≡ []) }
+        ensures stopped { IfErr result (λ stop. IsUnbound self.now → stop ≡ Memory) }
+    {
+        if signature.len() == self.len && !self.may_close(signature) {
+            return Ok(false);
+        }
+        self.may_begin(alloc, signature, spans, steps)
     }
 
     // Whether a cycle may have this signature, as far as its last class and its first one tell.

@@ -239,28 +239,101 @@ fn first_found_parallel(
     Ok(Found::listed(found, query.max() as usize))
 }
 
+// The first findings, while it may not pay to leave out all that can be seen to be in no cycle: in a few steps, where there is no
+// cycle, from all cycles, or in more steps. None where none of these tells them.
+fn found_early(
+    alloc: Global,
+    edges: &EdgeList,
+    order: &Order,
+    query: &Query,
+    grounds: &Grounds,
+) -> Result<Option<Found>, Memory>
+    requires { AreGrounds (is_before order.now) query.now.mode query.now.len edges.now grounds.now }
+    ensures { IfOk result
+        (λ soon. IfSome soon
+        (λ found. found ≡ listed_findings query.now (is_before order.now) edges.now)) }
+{
+    let mut count = 0;
+    if let Some(found) = found_soon(alloc, edges, order, query, grounds, &mut count)? {
+        return Ok(Some(found));
+    }
+    if let Some(found) = none_found(alloc, edges, order, query)? {
+        return Ok(Some(found));
+    }
+    if let Some(found) = findings_of_cycles(alloc, edges, order, query)? {
+        return Ok(Some(found));
+    }
+    found_later(alloc, edges, order, query, grounds, count)
+}
+
+// The same, on several threads.
+fn found_early_parallel(
+    rt: &(impl Threads + Sync),
+    alloc: Global,
+    edges: &EdgeList,
+    order: &Order,
+    query: &Query,
+    grounds: &Grounds,
+) -> Result<Option<Found>, Memory>
+    requires { AreGrounds (is_before order.now) query.now.mode query.now.len edges.now grounds.now }
+    ensures { IfOk result
+        (λ soon. IfSome soon
+        (λ found. found ≡ listed_findings query.now (is_before order.now) edges.now)) }
+{
+    let mut count = 0;
+    if let Some(found) = found_soon(alloc, edges, order, query, grounds, &mut count)? {
+        return Ok(Some(found));
+    }
+    if let Some(found) = none_found_parallel(rt, alloc, edges, order, query)? {
+        return Ok(Some(found));
+    }
+    if let Some(found) = findings_of_cycles_parallel(rt, alloc, edges, order, query)? {
+        return Ok(Some(found));
+    }
+    found_later(alloc, edges, order, query, grounds, count)
+}
+
+// The first findings, once all is left out that can be seen to be in no cycle.
+fn found_at_last(
+    alloc: Global,
+    edges: &EdgeList,
+    order: &Order,
+    query: &Query,
+) -> Result<Found, Memory>
+    ensures { IfOk result
+        (λ found. found ≡ listed_findings query.now (is_before order.now) edges.now) }
+{
+    let kept = edges_sought(alloc, edges, order, query)?;
+    let grounds = Grounds::of(alloc, edges, kept)?;
+    first_found(alloc, edges, order, query, &grounds)
+}
+
+// The same, on several threads.
+fn found_at_last_parallel(
+    rt: &(impl Threads + Sync),
+    alloc: Global,
+    edges: &EdgeList,
+    order: &Order,
+    query: &Query,
+) -> Result<Found, Memory>
+    ensures { IfOk result
+        (λ found. found ≡ listed_findings query.now (is_before order.now) edges.now) }
+{
+    let kept = edges_sought_parallel(rt, alloc, edges, order, query)?;
+    let grounds = Grounds::of(alloc, edges, kept)?;
+    first_found_parallel(rt, alloc, edges, order, query, &grounds)
+}
+
 // The first findings of a query whose length is as short as is soon seen.
 fn found_by(alloc: Global, edges: &EdgeList, order: &Order, query: &Query) -> Result<Found, Memory>
     ensures { IfOk result
         (λ found. found ≡ listed_findings query.now (is_before order.now) edges.now) }
 {
     let grounds = grounds_at_first(alloc, edges, order, query)?;
-    let mut count = 0;
-    if let Some(found) = found_soon(alloc, edges, order, query, &grounds, &mut count)? {
+    if let Some(found) = found_early(alloc, edges, order, query, &grounds)? {
         return Ok(found);
     }
-    if let Some(found) = none_found(alloc, edges, order, query)? {
-        return Ok(found);
-    }
-    if let Some(found) = findings_of_cycles(alloc, edges, order, query)? {
-        return Ok(found);
-    }
-    if let Some(found) = found_later(alloc, edges, order, query, &grounds, count)? {
-        return Ok(found);
-    }
-    let kept = edges_sought(alloc, edges, order, query)?;
-    let grounds = Grounds::of(alloc, edges, kept)?;
-    first_found(alloc, edges, order, query, &grounds)
+    found_at_last(alloc, edges, order, query)
 }
 
 // The same, on several threads.
@@ -275,22 +348,10 @@ fn found_by_parallel(
         (λ found. found ≡ listed_findings query.now (is_before order.now) edges.now) }
 {
     let grounds = grounds_at_first(alloc, edges, order, query)?;
-    let mut count = 0;
-    if let Some(found) = found_soon(alloc, edges, order, query, &grounds, &mut count)? {
+    if let Some(found) = found_early_parallel(rt, alloc, edges, order, query, &grounds)? {
         return Ok(found);
     }
-    if let Some(found) = none_found_parallel(rt, alloc, edges, order, query)? {
-        return Ok(found);
-    }
-    if let Some(found) = findings_of_cycles_parallel(rt, alloc, edges, order, query)? {
-        return Ok(found);
-    }
-    if let Some(found) = found_later(alloc, edges, order, query, &grounds, count)? {
-        return Ok(found);
-    }
-    let kept = edges_sought_parallel(rt, alloc, edges, order, query)?;
-    let grounds = Grounds::of(alloc, edges, kept)?;
-    first_found_parallel(rt, alloc, edges, order, query, &grounds)
+    found_at_last_parallel(rt, alloc, edges, order, query)
 }
 
 /// The first findings of a query over these edges, in the order of their signatures, each shown by the
