@@ -59,12 +59,18 @@ static void *beside_free(void *frees, const char *name)
     return function && are_of_one_library(frees, function) ? function : NULL;
 }
 
+/* A sanitizer's, where the loader has found one. To look up what isn't there takes memory, for the text that tells so:
+ * an allocator that begins just now, and gives back what it has too much, may wait for itself then. */
+__attribute__((weak)) int __sanitizer_get_ownership(const volatile void *);
+__attribute__((weak)) void AnnotateIgnoreReadsBegin(const char *, int);
+
 static void blocks_find(struct real_functions *all)
 {
     all->free = (void (*)(void *))next_of_blocks("free");
     all->realloc = (void *(*)(void *, size_t))next_of_blocks("realloc");
     all->malloc_usable_size = (size_t(*)(void *))beside_free((void *)all->free, "malloc_usable_size");
-    all->owns = (int (*)(const volatile void *))beside_free((void *)all->free, "__sanitizer_get_ownership");
+    if (__sanitizer_get_ownership)
+        all->owns = (int (*)(const volatile void *))beside_free((void *)all->free, "__sanitizer_get_ownership");
 }
 
 #ifdef __x86_64__
@@ -128,7 +134,8 @@ int real_find(void)
     real_clone = dlsym(RTLD_NEXT, "clone");
     function = dlsym(RTLD_NEXT, "pthread_attr_getsigmask_np");
     all.pthread_attr_getsigmask_np = (int (*)(const pthread_attr_t *, sigset_t *))function;
-    watcher_find(&all);
+    if (AnnotateIgnoreReadsBegin)
+        watcher_find(&all);
     faults_forget();
     real = all;
     real_found = 1;

@@ -37,6 +37,12 @@ def programs(tmp_path_factory):
         flags = ["-shared", "-fPIC", "-DNAME=" + name, "-DLINE=%d" % line]
         build("gcc", C_FLAGS + flags + ["-o", "plugin-%s.so" % name, source("plugin.c")], folder)
         build("gcc", C_FLAGS + flags + ["-o", "locker-%s.so" % name, source("locker.c")], folder)
+    for name, flags in (("arena", []), ("blocks", ["-DBLOCKS"])):
+        flags = ["-std=c++17", "-O1", "-fno-builtin", "-shared", "-fPIC", *flags]
+        build("g++", C_FLAGS + flags + ["-o", "lib%s.so" % name, source("arena.cc")], folder)
+        flags = ["-std=c++17", "-O1", "-L.", "-Wl,--no-as-needed", "-l" + name, "-Wl,-rpath,$ORIGIN"]
+        build("g++", C_FLAGS + flags + ["-o", "deleted-" + name, source("deleted.cc")], folder)
+    build("g++", C_FLAGS + ["-std=c++17", "-O1", "-o", "deleted", source("deleted.cc")], folder)
     build("gcc", C_FLAGS + ["-shared", "-fPIC", "-o", "liblibrary.so", source("library.c")], folder)
     build("gcc", C_FLAGS + ["-shared", "-fPIC", "-o", "libwaits.so", source("waits.c"), "-ldl"], folder)
     flags = ["-L.", "-Wl,--no-as-needed", "-llibrary", "-Wl,-rpath,$ORIGIN"]

@@ -53,6 +53,34 @@ def uses(*numbers):
     return "\n".join("main|acq(mutex@@use#%d)|@use\nmain|rel(mutex@@use#%d)|@use_end" % (n, n) for n in numbers)
 
 
+# The C++ library's operators; a library's own ones; those of a library that has free as well, which they don't call.
+OPERATORS = pytest.mark.parametrize("program", ["deleted", "deleted-arena", "deleted-blocks"])
+
+
+def expect_deleted(program, name, text):
+    run = record("./" + program, name)
+    assert run.status == 0, "status %d: %s" % (run.status, run.said)
+    compare(run.lines(), known(text, "deleted.cc"))
+
+
+@OPERATORS
+def test_lock_beside_deleted_memory(program):
+    expect_deleted(
+        program,
+        "beside",
+        """
+        main|acq(mutex@@beside#1)|@beside
+        main|acq(b)|@use
+        main|rel(b)|@use_end
+        main|rel(mutex@@beside#1)|@beside_end""",
+    )
+
+
+@OPERATORS
+def test_memory_that_new_refuses(program):
+    expect_deleted(program, "refused", "main|acq(b)|@use\nmain|rel(b)|@use_end")
+
+
 def test_lock_in_memory_that_moves():
     expect("moved", uses(1, 2, 3, 4), "memory.c")
 
