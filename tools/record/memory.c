@@ -308,15 +308,27 @@ static inline int pages_may_hold(uintptr_t start, uintptr_t end)
     return last - first > 1 || *filter_of(first) || *filter_of(last);
 }
 
+void block_end(void *block)
+{
+    if (lock_page_count == 0 || !block)
+        return;
+    uintptr_t start = (uintptr_t)block, end = start + block_size(block);
+    if (unlikely(pages_may_hold(start, end)))
+        memory_end(start, end);
+}
+
+void block_begin(const void *block, size_t bytes)
+{
+    uintptr_t start = (uintptr_t)block, end = start + bytes;
+    if (lock_page_count > 0 && block && unlikely(pages_may_hold(start, end)))
+        memory_end(start, end);
+}
+
 EXPORTED void free(void *block)
 {
     if (unlikely(!real_found))
         real_find();
-    if (lock_page_count > 0 && block) {
-        uintptr_t start = (uintptr_t)block, end = start + block_size(block);
-        if (unlikely(pages_may_hold(start, end)))
-            memory_end(start, end);
-    }
+    block_end(block);
     real.free(block);
 }
 

@@ -735,6 +735,7 @@ int process_ready(void)
 
 __attribute__((constructor(101))) static void recorder_start(void)
 {
+    operators_find();
     if (process_ready())
         recording_thread();
 }

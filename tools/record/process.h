@@ -97,6 +97,11 @@ void modules_check(void);
 void memory_end(uintptr_t start, uintptr_t end);
 void memory_end_inside(uintptr_t start, uintptr_t end);
 
+/* Ends the locks in a block that is about to be given back; and those in one of so many bytes that was just given out:
+ * whoever had it before gave it back by ways that aren't seen. */
+void block_end(void *block);
+void block_begin(const void *block, size_t bytes);
+
 /* Makes the recorder's unwinder ready. Called between slow_enter and slow_leave. */
 void unwinder_start(void);
 

@@ -26,7 +26,7 @@ struct real_functions real = {
 #undef REAL_STAND_IN
 };
 
-static int are_of_one_library(const void *one, const void *other)
+int are_of_one_library(const void *one, const void *other)
 {
     Dl_info place, other_place;
     return dladdr(one, &place) && dladdr(other, &other_place) && place.dli_fbase == other_place.dli_fbase;

@@ -102,6 +102,11 @@ extern void *real_vfork, *real_clone;
  * is called that does nothing. */
 int real_find(void);
 
+int are_of_one_library(const void *one, const void *other);
+
+/* At the start, or at the first call of one: finds C++'s operators new and delete (operators.c). */
+void operators_find(void);
+
 /* What isn't there is no fault of the program's. To be told of it once isn't enough: up to the second time the C
  * library keeps its text, which a leak checker finds where the first thread ends before the others. */
 void faults_forget(void);

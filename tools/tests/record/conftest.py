@@ -43,6 +43,7 @@ def programs(tmp_path_factory):
         flags = ["-std=c++17", "-O1", "-L.", "-Wl,--no-as-needed", "-l" + name, "-Wl,-rpath,$ORIGIN"]
         build("g++", C_FLAGS + flags + ["-o", "deleted-" + name, source("deleted.cc")], folder)
     build("g++", C_FLAGS + ["-std=c++17", "-O1", "-o", "deleted", source("deleted.cc")], folder)
+    build("g++", C_FLAGS + ["-shared", "-fPIC", "-o", "extension.so", source("extension.cc")], folder)
     build("gcc", C_FLAGS + ["-shared", "-fPIC", "-o", "liblibrary.so", source("library.c")], folder)
     build("gcc", C_FLAGS + ["-shared", "-fPIC", "-o", "libwaits.so", source("waits.c"), "-ldl"], folder)
     flags = ["-L.", "-Wl,--no-as-needed", "-llibrary", "-Wl,-rpath,$ORIGIN"]

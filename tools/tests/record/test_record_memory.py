@@ -63,6 +63,25 @@ def expect_deleted(program, name, text):
     compare(run.lines(), known(text, "deleted.cc"))
 
 
+@pytest.mark.parametrize("program", ["deleted-arena", "deleted-blocks"])
+def test_lock_in_deleted_memory_is_at_its_end(program):
+    """Each of the 12 forms gives a block back, and another lock is made in it."""
+    expect_deleted(program, "forms", uses(*range(1, 25)))
+
+
+@OPERATORS
+def test_lock_that_is_held_in_deleted_memory(program):
+    expect_deleted(
+        program,
+        "held",
+        """
+        main|acq(mutex@@held#1)|@held
+        main|rel(mutex@@held#1)|@held
+        main|acq(b)|@use
+        main|rel(b)|@use_end""",
+    )
+
+
 @OPERATORS
 def test_lock_beside_deleted_memory(program):
     expect_deleted(
@@ -79,6 +98,15 @@ def test_lock_beside_deleted_memory(program):
 @OPERATORS
 def test_memory_that_new_refuses(program):
     expect_deleted(program, "refused", "main|acq(b)|@use\nmain|rel(b)|@use_end")
+
+
+def test_operators_of_a_library_that_a_program_without_cxx_loads():
+    """They stay the ones that it and the C++ library take."""
+    extension = os.path.abspath("extension.so")
+    run = record("./memory", "wanders", environment={**os.environ, "PLUGIN": extension})
+    assert run.status == 0, "status %d: %s" % (run.status, run.said)
+    uses_it = "main|acq(lock_of_extension)|@extension\nmain|rel(lock_of_extension)|@extension_end"
+    compare(run.lines(), known(uses_it, "extension.cc"))
 
 
 def test_lock_in_memory_that_moves():
