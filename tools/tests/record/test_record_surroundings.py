@@ -189,6 +189,15 @@ def test_program_has_the_signals_of_who_asked(options, before):
 
 
 @pytest.mark.parametrize("options", [[], ["--live"]], ids=["trace", "live"])
+def test_few_open_files(options):
+    """What the program and the recorder say is there, also where a shell has no more than the number of its script to itself."""
+    few = {"preexec_fn": lambda: resource.setrlimit(resource.RLIMIT_NOFILE, (11, 11))}
+    done = subprocess.run([RECORD, *options, "sh", "-c", "echo said >&2"], stderr=subprocess.PIPE, **few)
+    first, *others = done.stderr.decode().split("\n")
+    assert first == "said" and others[0].startswith("goodlock-record: "), done.stderr.decode()
+
+
+@pytest.mark.parametrize("options", [[], ["--live"]], ids=["trace", "live"])
 def test_program_has_the_variables_of_who_asked(options):
     """Also those whose names a script may use for itself."""
     names = "here python name mask line status directory".split()
