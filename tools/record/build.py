@@ -38,6 +38,14 @@ def newest_source(name):
     return newest
 
 
+def mark_as_built(path):
+    """Where the newer source is none of its own, make leaves it as it was: each later use would ask make again."""
+    try:
+        os.utime(path)
+    except OSError:  # it is somebody else's
+        pass
+
+
 def built(name):
     """The path of what is built under this name; it is built here if it is missing or older than a source."""
     path = os.path.join(TOOLS, "out", name)
@@ -52,4 +60,5 @@ def built(name):
             raise BuildError("%s isn't built, and make can't be run: %s" % (name, error))
         if made.returncode != 0:
             raise BuildError("building %s failed:\n%s" % (name, made.stdout.decode(errors="replace")))
+        mark_as_built(path)
     return path

@@ -91,6 +91,25 @@ def test_first_use_with_a_limit_of_file_sizes():
         os.unlink("t.std")
 
 
+def test_newer_source_is_looked_into_once():
+    """Also where nothing has to be built anew, as it is a part of other things: later uses don't ask make."""
+    shutil.copytree(TOOLS, "tools", ignore=shutil.ignore_patterns("tests", "python"))
+    subprocess.run(["make", "-s", "-C", "tools"], check=True)
+    os.utime("tools/record/convert/lines.c")
+    os.mkdir("bin")
+    with open("bin/make", "w") as file:
+        file.write('#!/bin/sh\necho asked >>asked\nexec %s "$@"\n' % shutil.which("make"))
+    os.chmod("bin/make", 0o755)
+    environment = {**os.environ, "PATH": os.path.abspath("bin") + ":" + os.environ["PATH"]}
+    asked = []
+    for _ in range(2):
+        command = ["tools/goodlock-record", "-o", "t.std", "./locks", "table"]
+        subprocess.run(command, check=True, stderr=subprocess.PIPE, env=environment)
+        os.unlink("t.std")
+        asked.append(len(read_lines("asked")))
+    assert asked == [2, 2], asked  # for the preload library and the reader of events
+
+
 def test_program_with_address_sanitizer():
     build_or_skip("AddressSanitizer", "gcc", ["-fsanitize=address"], "locks.c", "locks-asan")
     run = record("./locks-asan", "mutexes")
