@@ -21,7 +21,8 @@
 #define PAGE_BITS 12
 #define PAGE_BYTES (1ul << PAGE_BITS)
 #define PLACE_BYTES 4ul /* as a spin lock */
-#define PAGE_WORDS (PAGE_BYTES / PLACE_BYTES / 64)
+#define WORD_BYTES (64 * PLACE_BYTES)
+#define PAGE_WORDS (PAGE_BYTES / WORD_BYTES)
 #define FILTER_BITS 14
 
 struct lock_page {
@@ -90,24 +91,33 @@ void memory_forget(uintptr_t address)
         __atomic_fetch_and(&page->places[place / 64], ~(1ull << place % 64), __ATOMIC_RELEASE);
 }
 
+/* How many of a word's places, from the first one at this address on, lie before the end. */
+static unsigned places_before(uintptr_t first, uintptr_t end)
+{
+    uintptr_t count = end > first ? (end - first + PLACE_BYTES - 1) / PLACE_BYTES : 0;
+    return count < 64 ? (unsigned)count : 64;
+}
+
+static uint64_t first_places(unsigned count)
+{
+    return count < 64 ? (1ull << count) - 1 : ~0ull;
+}
+
 /* Those of a word's places that lie in the range. */
 static uint64_t places_within(const struct lock_page *page, size_t word, uintptr_t start, uintptr_t end)
 {
     uint64_t places = __atomic_load_n(&page->places[word], __ATOMIC_ACQUIRE);
-    uintptr_t first = (page->page << PAGE_BITS) + word * 64 * PLACE_BYTES;
-    for (uint64_t left = places; left; left &= left - 1) {
-        unsigned bit = (unsigned)__builtin_ctzll(left);
-        uintptr_t address = first + bit * PLACE_BYTES;
-        if (address < start || address >= end)
-            places &= ~(1ull << bit);
-    }
-    return places;
+    uintptr_t first = (page->page << PAGE_BITS) + word * WORD_BYTES;
+    return places & first_places(places_before(first, end)) & ~first_places(places_before(first, start));
 }
 
+/* Most blocks lie in a few words of a page. */
 static int page_holds(const struct lock_page *page, uintptr_t start, uintptr_t end)
 {
-    for (size_t word = 0; word < PAGE_WORDS; word++)
-        if (page->places[word] && places_within(page, word, start, end))
+    uintptr_t first = page->page << PAGE_BITS;
+    size_t word = start > first ? (start - first) / WORD_BYTES : 0;
+    for (; word < PAGE_WORDS && first + word * WORD_BYTES < end; word++)
+        if (places_within(page, word, start, end))
             return 1;
     return 0;
 }
@@ -116,7 +126,7 @@ static void page_end(struct lock_page *page, uintptr_t start, uintptr_t end)
 {
     for (size_t word = 0; word < PAGE_WORDS; word++)
         for (uint64_t places = places_within(page, word, start, end); places; places &= places - 1) {
-            uintptr_t first = (page->page << PAGE_BITS) + word * 64 * PLACE_BYTES;
+            uintptr_t first = (page->page << PAGE_BITS) + word * WORD_BYTES;
             lock_forget((const void *)(first + (unsigned)__builtin_ctzll(places) * PLACE_BYTES));
         }
 }
@@ -143,7 +153,7 @@ static struct held *held_in_page(struct thread *thread, const struct lock_page *
 {
     for (size_t word = 0; word < PAGE_WORDS; word++)
         for (uint64_t places = places_within(page, word, start, end); places; places &= places - 1) {
-            uintptr_t first = (page->page << PAGE_BITS) + word * 64 * PLACE_BYTES;
+            uintptr_t first = (page->page << PAGE_BITS) + word * WORD_BYTES;
             struct slot *slot = table_find(&process.locks, first + (unsigned)__builtin_ctzll(places) * PLACE_BYTES);
             struct held *held = slot && slot->value ? held_find(thread, (uint32_t)slot->value) : NULL;
             if (held)
@@ -233,7 +243,7 @@ static void page_leave(struct left *left, const struct lock_page *page, uintptr_
 {
     for (size_t word = 0; word < PAGE_WORDS; word++)
         for (uint64_t places = places_within(page, word, start, end); places; places &= places - 1) {
-            uintptr_t first = (page->page << PAGE_BITS) + word * 64 * PLACE_BYTES;
+            uintptr_t first = (page->page << PAGE_BITS) + word * WORD_BYTES;
             uintptr_t address = first + (unsigned)__builtin_ctzll(places) * PLACE_BYTES;
             struct slot *slot = table_find(&process.locks, address);
             if (slot && slot->value && left->count < left->room)

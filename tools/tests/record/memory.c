@@ -93,6 +93,45 @@ static void moved(void)
     use(&large[99999].lock);
 }
 
+static pthread_spinlock_t made_spin;
+
+/* A lock that nobody makes is as one that was made elsewhere. */
+static void spin(char *place)
+{
+    pthread_spinlock_t *lock = (pthread_spinlock_t *)place;
+    memcpy(place, (const void *)&made_spin, sizeof made_spin);
+    pthread_spin_lock(lock);   /* @spin */
+    pthread_spin_unlock(lock); /* @spin_end */
+}
+
+enum { FEW = 24 }; /* of these 24 bytes the last ones are the next block's head */
+
+static void spin_around(char *block)
+{
+    spin(block - 12); /* the last of the block before */
+    spin(block);
+    spin(block + FEW - 4);
+    spin(block + FEW + 8); /* the first of the block behind */
+}
+
+/* The smallest locks, at both ends of blocks that are given back and beside them. These blocks lie at all places where
+ * the recorder's own way of keeping places may have an end. */
+static void edges(void)
+{
+    char *blocks[60];
+    pthread_spin_init(&made_spin, 0);
+    for (int i = 0; i < 60; i++) {
+        blocks[i] = calloc(1, FEW);
+        MUST(i == 0 || blocks[i] == blocks[i - 1] + FEW + 8);
+    }
+    for (int i = 1; i < 59; i += 3) {
+        spin_around(blocks[i]);
+        free(blocks[i]);
+        MUST(malloc(FEW) == blocks[i]);
+        spin_around(blocks[i]);
+    }
+}
+
 static void unmapped(void)
 {
     char *pages = mmap(NULL, 1 << 20, PROT_READ | PROT_WRITE, MAP_PRIVATE | MAP_ANONYMOUS, -1, 0);
@@ -433,7 +472,7 @@ int main(int count, char **arguments)
         void (*run)(void);
     } programs[] = {
         {"freed", freed},         {"freed_held", freed_held}, {"moved", moved},         {"unmapped", unmapped}, {"stacks", stacks},   {"keepers", keepers}, {"lent", lent},     {"owns", owns},
-        {"failing", failing}, {"detached_twice", detached_twice}, {"taken_early", taken_early}, {"remade", remade}, {"elsewhere", elsewhere}, {"handles", handles}, {"plugins", plugins}, {"lockers", lockers}, {"wanders", wanders}, {"visits", visits},
+        {"edges", edges}, {"failing", failing}, {"detached_twice", detached_twice}, {"taken_early", taken_early}, {"remade", remade}, {"elsewhere", elsewhere}, {"handles", handles}, {"plugins", plugins}, {"lockers", lockers}, {"wanders", wanders}, {"visits", visits},
     };
     for (size_t i = 0; count > 1 && i < sizeof programs / sizeof programs[0]; i++)
         if (strcmp(programs[i].name, arguments[1]) == 0) {

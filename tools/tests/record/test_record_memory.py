@@ -113,6 +113,12 @@ def test_lock_in_memory_that_moves():
     expect("moved", uses(1, 2, 3, 4), "memory.c")
 
 
+def test_locks_at_the_ends_of_a_block_and_beside_it():
+    """Four are used at first, and two of them are others after the block was given back; of the two beside it nothing is new."""
+    text = ["main|acq(spin@@spin#%d)|@spin\nmain|rel(spin@@spin#%d)|@spin_end" % (n, n) for n in range(1, 20 * 6 + 1)]
+    expect("edges", "\n".join(text), "memory.c")
+
+
 def test_lock_in_memory_that_is_unmapped():
     expect("unmapped", uses(1, 2, 3), "memory.c")
 
