@@ -58,6 +58,29 @@ public class Growing {
     }
 }
 """
+# The JVM names a hidden class by the name in its code and an address, as Hidden$Task/0x00007f7e0c017400.
+HIDDEN = """import java.lang.invoke.MethodHandles;
+import java.lang.reflect.Array;
+import java.nio.file.Files;
+import java.nio.file.Path;
+
+public class Hidden {
+    public static class Task implements Runnable {
+        public void run() { }
+    }
+
+    public static void main(String[] words) throws Exception {
+        byte[] code = Files.readAllBytes(Path.of("own", "Hidden$Task.class"));
+        Class<?> hidden = MethodHandles.lookup().defineHiddenClass(code, true).lookupClass();
+        Runnable task = (Runnable) hidden.getDeclaredConstructor().newInstance();
+        Object several = Array.newInstance(hidden, 1);
+        synchronized (hidden) { synchronized (task) { synchronized (several) { } } }
+        Thread thread = new Thread(task);
+        thread.start();
+        thread.join();
+    }
+}
+"""
 
 
 def test_threads_made_and_joined():
@@ -92,6 +115,15 @@ def test_names_that_are_long():
     for thread in (name, "main.2:short!?"):
         text += "\nmain|fork(%s)|@long_start\nmain|join(%s)|@long_join" % (thread, thread)
     expect("longNames", text + PAIR.replace("main|", name + "|") + PAIR.replace("main|", "main.2:short!?|"))
+
+
+def test_names_of_hidden_classes_have_no_address():
+    compile_source("Hidden", HIDDEN)
+    run = record(None, command=["java", QUICK, "-cp", "own", "Hidden"])
+    assert run.status == 0, run.said
+    names = [re.search(r"\((.*)\)", line).group(1) for line in run.lines() if "|rel(" not in line]
+    locks = ["Hidden$Task.class", "Hidden$Task@Hidden.java:16#1", "Hidden$Task[]@Hidden.java:16#1"]
+    assert names == [*locks, "main.1:Hidden$Task", "main.1:Hidden$Task"]
 
 
 def test_thread_pools():

@@ -174,13 +174,26 @@ final class Kinds {
         return nameOf(type) + ".class";
     }
 
-    /** A class's name without its package. A lambda's class has a number and an address in its name. */
+    /** A class's name without its package. That of a lambda's class has a number in it. */
     private static String nameOf(Class<?> type) {
-        String name = type.getTypeName();
+        String name = withoutAddress(type.getTypeName());
         int lambda = name.indexOf("$$Lambda");
         if (lambda >= 0) {
             name = name.substring(0, lambda);
         }
         return name.substring(name.lastIndexOf('.') + 1) + (lambda < 0 ? "" : ".lambda");
+    }
+
+    /**
+     * The name of a hidden class has an address behind a slash; that of an array of its objects ends in brackets all the same. No pattern is
+     * looked for: where the stack ends meanwhile, that isn't told as an error of the JVM's.
+     */
+    private static String withoutAddress(String name) {
+        int slash = name.indexOf('/');
+        if (slash < 0) {
+            return name;
+        }
+        int brackets = name.indexOf('[', slash);
+        return name.substring(0, slash) + (brackets < 0 ? "" : name.substring(brackets));
     }
 }
