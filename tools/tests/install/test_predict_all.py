@@ -91,6 +91,14 @@ def test_a_trace_that_is_not_there_is_named(path):
     assert set(reports()) == {"a.std.json"}
 
 
+def test_a_trace_whose_folder_is_missing_is_named(path, tmp_path):
+    """Its name is made out where `..` is in it, which it can't be then."""
+    (tmp_path / "here").mkdir()
+    status, output, errors = predict_all(path, "../none/a.std", cwd=tmp_path / "here")
+    assert (status, output) == (1, "")
+    assert errors == "goodlock-predict-all: ../none/a.std: there is no such file\n"
+
+
 def test_names_may_have_anything_in_them(path):
     names = ["a b.std", 'it\'s "q".std', "$(touch hit).std", "-x.std", "back\\slash.std", "line\nend.std", "é.std"]
     for name in names:
