@@ -6,7 +6,18 @@ import re
 import subprocess
 
 import pytest
-from java_traces import JAVA_RECORD, MARKS, PAIR, QUICK, all_of_java, expect, program, record, version_of
+from java_traces import (
+    JAVA_RECORD,
+    MARKS,
+    PAIR,
+    QUICK,
+    all_of_java,
+    compile_source,
+    expect,
+    program,
+    record,
+    version_of,
+)
 from known_traces import NO_EVENTS, compare, cycles_in, expand, is_front_of_a_run, killed, others_of
 
 pytestmark = pytest.mark.usefixtures("classes")
@@ -19,6 +30,24 @@ DEADLOCK = """
     main|acq(Object@@b#1)|@dead_ab
     main.1:Locks.lambda|acq(Object@@b#1)|@dead_b
     main.1:Locks.lambda|acq(Object@@a#1)|@dead_ba"""
+# Starts a thread with what stack there is, a little more at each try.
+DEEP = """public class Deep implements Runnable {
+    public void run() { }
+
+    public static void main(String[] words) {
+        new Thread(new Deep()).start();
+        deeper();
+    }
+
+    static void deeper() {
+        try {
+            deeper();
+        } catch (StackOverflowError end) {
+            new Thread(new Deep()).start();
+        }
+    }
+}
+"""
 
 
 def test_killed_in_a_deadlock():
@@ -47,6 +76,16 @@ def test_threads_that_run_out_of_stack(compiler):
     lines = [line for line in run.lines() if "|beyond(" not in line]
     compare(lines[-2:], expand(after, MARKS))
     assert others_of(lines)[1] == {"main": []}, "held at the end"
+
+
+def test_thread_started_where_the_stack_ends():
+    """Where the recorder has too little stack the program meets the JVM's own error, as at any call."""
+    compile_source("Deep", DEEP)
+    run = record(None, command=["java", "-Xint", "-cp", "own", "Deep"])
+    assert run.status == 0, run.said
+    first, *_, last = run.lines()
+    assert first == "main|fork(main.1:Deep)|Deep.java:5"
+    assert re.fullmatch(r"main\|fork\(main\.\d+:Deep\)\|Deep\.java:13", last), last
 
 
 def test_thread_that_runs_out_of_memory():

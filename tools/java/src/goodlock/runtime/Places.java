@@ -11,6 +11,8 @@ final class Places {
     private static final Field TARGET = Kinds.field(Thread.class, "target");
     private static final Field HOLDER = Kinds.field(Thread.class, "holder");
     private static final Field TASK = Kinds.field(HOLDER == null ? null : HOLDER.getType(), "task");
+    /** In front of a number: the names of threads that the program gives none. */
+    private static final String NUMBERED = "Thread-";
     private static int frames;
 
     private Places() {
@@ -72,11 +74,25 @@ final class Places {
     /** A thread's name if the program chose one, else the class of what it runs, or nothing. */
     static String routineOf(Thread thread) {
         String name = thread.getName();
-        if (!name.matches("Thread-\\d+") && !name.isEmpty()) {
+        if (isChosen(name)) {
             return name;
         }
         Object target = thread.getClass() != Thread.class ? thread : targetOf(thread);
         return target == null ? null : Kinds.nameOf(target);
+    }
+
+    /** Whether the program chose a thread's name. No pattern is looked for: where the stack ends meanwhile, that isn't told as an error of
+     * the JVM's. */
+    private static boolean isChosen(String name) {
+        if (!name.startsWith(NUMBERED) || name.length() == NUMBERED.length()) {
+            return !name.isEmpty();
+        }
+        for (int at = NUMBERED.length(); at < name.length(); at++) {
+            if (name.charAt(at) < '0' || name.charAt(at) > '9') {
+                return true;
+            }
+        }
+        return false;
     }
 
     private static Object targetOf(Thread thread) {
