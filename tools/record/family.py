@@ -153,6 +153,7 @@ class Family:
         self.companion = None  # of a live recording: SIGUSR1 is for it
         self.signalled = {}  # wait statuses of the children that a signal ended
         self.ends = 0  # how many children's ends were taken
+        self.files = 0  # how many files recorded processes had begun
 
     def accompany(self, companion):
         self.companion = companion
@@ -185,6 +186,12 @@ class Family:
         if not names_in_proc():
             return sorted({pid for pid, *_ in self.recording.extents() if is_living_child(pid)})
         return [p for p in family if maps_file(p, self.token) is not False]
+
+    def has_begun_files(self):
+        """Whether files of the recording were begun since this was last asked: some ran then, though each was gone by the time that we
+        looked whether it writes any, as where processes fork and end quickly on a busy machine."""
+        before, self.files = self.files, len(self.recording.extents())
+        return self.files != before
 
     def reap(self, first=None):
         """Takes the ends of children; the wait status of the first one if it is among them."""
@@ -230,11 +237,11 @@ class Family:
             family = self.living()
             running = self.recorded_among(family)
             has_family = bool(family) or (not names_in_proc() and has_children())
+            if running or (has_family and self.has_begun_files()):
+                limit = time.monotonic() + BEGIN_LIMIT
             if not running and (not has_family or time.monotonic() > limit):
                 self.reap()  # some may have ended while we looked
                 return True
-            if running:
-                limit = time.monotonic() + BEGIN_LIMIT
             if running and not told:
                 self.say("waiting for " + told_to_run_on(sorted(running)))
                 told = True

@@ -19,6 +19,7 @@ from known_traces import LIMIT, NO_EVENTS, RECORD, REFUSED, TOOLS, compare, read
 
 sys.path.insert(0, os.path.join(TOOLS, "record"))
 
+import family  # noqa: E402
 from family import send_signal  # noqa: E402
 
 FIRST_ENDED = """
@@ -260,6 +261,35 @@ def test_very_many_generations_of_processes():
     assert len(traces) == 2, str(traces)
     for trace in traces:
         compare(read_lines(trace), known(PAIR))
+
+
+class Quick:
+    """So many generations of processes, as a busy machine shows them: each has begun its file, and is gone by the time that it is
+    looked at; and their recording."""
+
+    directory = "quick"
+
+    def __init__(self, generations):
+        self.left, self.begun = generations, 0
+
+    def look(self):
+        if self.left == 0:
+            return []
+        self.left, self.begun = self.left - 1, self.begun + 1
+        return [os.getpid()]
+
+    def extents(self):
+        return list(range(self.begun))
+
+
+def test_generations_that_are_gone_when_they_are_looked_at(monkeypatch):
+    quick = Quick(40)
+    monkeypatch.setattr(family, "BEGIN_LIMIT", 0.05)
+    waiting = family.Family(quick, print)
+    monkeypatch.setattr(waiting, "living", quick.look)
+    monkeypatch.setattr(waiting, "recorded_among", lambda processes: [])
+    assert waiting.wait_for_others()
+    assert quick.left == 0
 
 
 def test_more_processes_than_files_that_may_be_open():
