@@ -1,12 +1,11 @@
 //! What a lane's handle is of.
 ghost use Rattle.std.specs.Prelude.{◌≡◌};
-ghost use Rattle.gl_c.specs.Lanes.{IsRecordOn, IsRecordOfKind, IsRecordOfState, IsClose};
-ghost use Rattle.gl_c.specs.Numbered.{event_of_kind};
+ghost use Rattle.gl_c.specs.Lanes.{IsRecordOn, IsRecordOfState, IsClose};
 
-use crate::codes::{ACQUIRE, FULL, MISUSE, OK, RANGE, RELEASE, UNCONFIRMED};
+use crate::codes::{FULL, MISUSE, OK, RANGE, UNCONFIRMED};
 use crate::numbered::{event_of, refusal_code};
 use gl_engine::{CloseFault, Receipt, RecordFault, Recorder};
-use gl_event::{Event, LocId, LockId, LockMode};
+use gl_event::Event;
 
 /// One thread's lane: it is recorded on, then it is closed, and waits to be handed in.
 #[derive(Drop)]
@@ -20,23 +19,7 @@ pub enum LaneState {
 }
 
 // Records the event, and tells the place that it has in the thread's list, or would have had.
-#[inline(always)]
 fn record_event(recorder: &mut Recorder, event: Event, at: &mut u32) -> u32
-    ensures { IsRecordOn recorder.old event result at.new recorder.new }
-{
-    if !recorder.has_room() {
-        return record_anew(recorder, event, at);
-    }
-    *at = recorder.taken();
-    match recorder.record_known(event) {
-        Ok(_) => OK,
-        Err(why) => refusal_code(why),
-    }
-}
-
-// The same where the lane seems full: there may be room by now.
-#[inline(never)]
-fn record_anew(recorder: &mut Recorder, event: Event, at: &mut u32) -> u32
     ensures { IsRecordOn recorder.old event result at.new recorder.new }
 {
     *at = recorder.taken();
@@ -44,31 +27,6 @@ fn record_anew(recorder: &mut Recorder, event: Event, at: &mut u32) -> u32
         Ok(_) => OK,
         Err(RecordFault::Full(_)) => FULL,
         Err(RecordFault::Refused(why)) => refusal_code(why),
-    }
-}
-
-// Records the event, if there is one.
-#[inline(never)]
-fn record_any(recorder: &mut Recorder, event: Option<Event>, at: &mut u32) -> u32
-    ensures { IsRecordOfKind recorder.old event at.old result at.new recorder.new }
-{
-    match event {
-        Some(event) => record_event(recorder, event, at),
-        None => RANGE,
-    }
-}
-
-// Records the event of this kind. Those that come most have ways of their own, on which no kinds are left to tell apart.
-#[inline(always)]
-fn record_kind(recorder: &mut Recorder, kind: u32, operand: u32, place: u32, at: &mut u32) -> u32
-    ensures { IsRecordOfKind recorder.old (event_of_kind kind operand place)
-        at.old result at.new recorder.new }
-{
-    let (lock, mode, loc) = (LockId::new(operand), LockMode::Exclusive, LocId::new(place));
-    match kind {
-        ACQUIRE => record_event(recorder, Event::Acquire { lock, mode, loc }, at),
-        RELEASE => record_event(recorder, Event::Release { lock, mode, loc }, at),
-        _ => record_any(recorder, event_of(kind, operand, place), at),
     }
 }
 
@@ -80,7 +38,10 @@ impl LaneState {
         let LaneState::Recording(recorder) = self else {
             return MISUSE;
         };
-        record_kind(recorder, kind, operand, place, at)
+        let Some(event) = event_of(kind, operand, place) else {
+            return RANGE;
+        };
+        record_event(recorder, event, at)
     }
 
     /// Ends the recording, and what is answered. A lane that is full and stays so, since nobody is left to pull,

@@ -13,7 +13,8 @@ use Rattle.gl_std.specs.Line.{Operation, Shape, is_on_thread, shape_of}
 use Rattle.gl_std.specs.Line.Shape.{Call}
 use Rattle.gl_std.specs.Names.{NameLists}
 use Rattle.gl_std.specs.Trace.{after_call, after_line, after_shape, and_then, operands, read_from}
-use Rattle.gl_std.specs.bodies.Blocks.{after_shapes, named, shape_in, AreKnown, GoOn, HasTakenShapes, IsKnownOf, IsKnownSoFar, IsNumbered, TakesShapes}
+use Rattle.gl_std.specs.bodies.Blocks.{after_shapes, known_operands, named, shape_in, AreKnown, GoOn, HasTakenShapes, IsKnownOf, IsKnownSoFar, IsNumbered, TakesShapes}
+use Rattle.gl_std.specs.bodies.Finding.{found_in, with_name, AreFoundAt}
 use Rattle.gl_std.specs.bodies.Judgements.{AreApart, JudgesLine}
 use Rattle.gl_std.specs.bodies.Shown.{shown_operation}
 use Rattle.gl_std.specs.bodies.States.{HasJudged}
@@ -356,3 +357,27 @@ map_take_rest f (y ∷ xs) (suc i) x within is = let later = map_take_rest f xs 
 -- the numbers that were found, where each name has one
 pub found_at : (found : Found) (own number loc : ℕ) → found.thread ≡ Some own → found.operand ≡ Some number → found.loc ≡ Some loc → ◌≡◌ {A = Found} (record { thread = Some own; operand = Some number; loc = Some loc }) found
 found_at found own number loc a b d = (λ i. record { thread = sym a i; operand = sym b i; loc = sym d i })
+
+-- and where those of a block's names are known
+pub stands_at : (xs : List (Option ℕ)) (i n own number : ℕ) (x : Option ℕ) → n ≡ i → n < length xs → x ≡ get_or xs n x → x ≡ Some own → number ≡ own → slice_get xs i ≡ Some (Some number)
+stands_at xs i n own number x at within is some same =
+    subst (λ j. slice_get xs j ≡ Some (Some number)) at
+    (slice_get-get_or xs n x within ∙ ap (λ o. Some o) (sym is ∙ some ∙ ap (λ o. Some o) (sym same)))
+
+known_operand : (block names : NameLists) (known : Known) (o : Operation) (t : List ℕ) (j own number : ℕ) → IsKnownSoFar block names known → position (bytes_eq t) names.threads ≡ Some own → slice_get (known_operands o known) j ≡ Some (Some number)
+    → position (bytes_eq (named (operands o block) j)) (cond (is_on_thread o) (with_name names.threads (position (bytes_eq t) names.threads) t) names.locks) ≡ Some number
+known_operand block names known o t j own number right at = by (is_on_thread o)
+  where
+    by : (v : Bool) → slice_get (cond v known.threads.items known.locks.items) j ≡ Some (Some number)
+        → position (bytes_eq (named (cond v block.threads block.locks) j)) (cond v (with_name names.threads (position (bytes_eq t) names.threads) t) names.locks) ≡ Some number
+    by true is = subst (λ n. position (bytes_eq (named block.threads j)) (with_name names.threads n t) ≡ Some number) (sym at) (right.threads j number is)
+    by false is = right.locks j number is
+
+pub known_at : (block names : NameLists) (known : Known) (o : Operation) (i j k own number loc : ℕ) → IsKnownSoFar block names known
+    → slice_get known.threads.items i ≡ Some (Some own) → slice_get (known_operands o known) j ≡ Some (Some number) → slice_get known.locs.items k ≡ Some (Some loc)
+    → AreFoundAt names o (named block.threads i) (named (operands o block) j) (named block.locs k) own number loc
+known_at block names known o i j k own number loc right a b d =
+    let t = named block.threads i in
+    let at = right.threads i own a in
+    found_at (found_in names o t (named (operands o block) j) (named block.locs k)) own number loc at
+    (known_operand block names known o t j own number right at b) (right.locs k loc d)

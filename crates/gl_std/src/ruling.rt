@@ -23,6 +23,7 @@ pub(crate) enum Ruling {
 
 /// Takes the event as the thread's next one, where neither the held locks nor `limit` refuse it. A
 /// stray changes nothing. After a fault the state is of no use.
+#[inline(always)]
 pub(crate) fn rule(state: &mut ThreadState, event: Event, limit: Option<StdKind>) -> Ruling
     requires fits { state.old.events + 1 < 2 ^ 32 }
     ensures ruling { (es : List Event) → StandsAfter es state.old

@@ -1,11 +1,11 @@
 -- Blocks: what the lines of a piece say, by numbers of its own for names.
-use Rattle.std.specs.Prelude.{◌≡◌, ℕ, ◌+◌, ◌*◌, ◌<◌, ◌≤◌, List, [], ◌∷◌, All, Option, Some, Result, Ok, Err, length, map, position, slice_get, slice_index_or, vec_len}
+use Rattle.std.specs.Prelude.{◌≡◌, ℕ, ◌+◌, ◌*◌, ◌<◌, ◌≤◌, List, [], ◌∷◌, All, Option, Some, Result, Ok, Err, length, map, position, slice_get, slice_index_or, vec_len, if◌then◌else◌}
 use Rattle.std.specs.Option.{option_map_or}
 use Rattle.std.specs.Str.{bytes_eq}
 use Rattle.gl_event.specs.Bounds.{Bounds}
 use Rattle.gl_event.specs.declared.events.Event.{Event}
 use Rattle.gl_std.specs.Laws.{IsFront}
-use Rattle.gl_std.specs.Line.{Shape, cut_at, shape_of}
+use Rattle.gl_std.specs.Line.{Operation, Shape, cut_at, is_on_thread, shape_of}
 use Rattle.gl_std.specs.Line.Shape.{Blank, Bad, Other, Call}
 use Rattle.gl_std.specs.Lines.{LF, lines, ended_lines}
 use Rattle.gl_std.specs.Names.{NameLists}
@@ -114,6 +114,11 @@ pub record IsKnownOf (block names : NameLists) (known : Known) : Type 0 where
   pub all_threads : vec_len known.threads ≡ length block.threads
   pub all_locks : vec_len known.locks ≡ length block.locks
   pub all_locs : vec_len known.locs ≡ length block.locs
+
+-- the numbers in the text of a block's locks or threads, as the operation says
+abbrev pub known_operands : Operation → Known → List (Option ℕ)
+known_operands operation known =
+    if is_on_thread operation then known.threads.items else known.locks.items
 
 -- the numbers that a block knows of its names are those among these
 abbrev pub IsRight : NameLists → Block → Type 0

@@ -1,9 +1,9 @@
 //! Judging the lines of a block, whose names have numbers of its own.
-ghost use Rattle.std.specs.Prelude.{◌≡◌, ◌+◌, ◌^◌, ◌<◌, false, [], ◌∷◌, All, length, map, vec_len, OnOk};
+ghost use Rattle.std.specs.Prelude.{◌≡◌, ◌+◌, ◌^◌, ◌<◌, false, [], ◌∷◌, All, length, map, vec_len, IfSome, OnOk};
 ghost use Rattle.gl_std.specs.Line.{is_on_itself};
 ghost use Rattle.gl_std.specs.Trace.{operands};
 ghost use Rattle.gl_std.specs.bodies.Blocks.{named, shape_in, shapes_of, AreNumbered, CanJudgeNumbered, FailsShapes, GoOn, IsKnownOf, IsNumbered, IsRight, TakesShapes};
-ghost use Rattle.gl_std.specs.bodies.Finding.{found_in};
+ghost use Rattle.gl_std.specs.bodies.Finding.{found_in, AreFoundAt};
 ghost use Rattle.gl_std.specs.bodies.Judgements.{AreApart, HasCountedEvent, HasCountedLine, JudgesShape};
 ghost use Rattle.gl_std.specs.bodies.Shown.{shown_operation};
 ghost use Rattle.gl_std.specs.bodies.States.{IsSound};
@@ -140,9 +140,59 @@ impl Judge {
         }
     }
 
-    // `judge_numbered`, for a line that tells an event.
+    // `judge_numbered`, for a line that tells an event. Where the numbers of its names are known, nothing is looked up.
     #[inline(always)]
     fn judge_call(
+        &mut self,
+        names: &Names,
+        known: &mut Known,
+        operation: Operation,
+        thread: ThreadId,
+        operand: u32,
+        location: LocId,
+    ) -> Result<Judged, ReadFault>
+        requires { CanJudgeNumbered self.old names.now known.old
+            (NumberedCall operation thread operand location) }
+        ensures judges { JudgesShape self.old
+            (shape_in names.now (NumberedCall operation thread operand location))
+            self.new result }
+        ensures known { IsKnownOf names.now self.old.names known.new }
+        ensures counts { HasCountedEvent self.old self.new }
+    {
+        match self.known_numbers(names, known, operation, thread, operand, location) {
+            Some((own, number, loc)) => self.take_known(operation, own, number, loc),
+            None => self.look_up_call(names, known, operation, thread, operand, location),
+        }
+    }
+
+    // The numbers here of the names that have these in a block, where all of them are known.
+    #[inline(always)]
+    fn known_numbers(
+        &self,
+        names: &Names,
+        known: &Known,
+        operation: Operation,
+        thread: ThreadId,
+        operand: u32,
+        location: LocId,
+    ) -> Option<(ThreadId, u32, LocId)>
+        requires { CanJudgeNumbered self.now names.now known.now
+            (NumberedCall operation thread operand location) }
+        ensures { IfSome result
+            (λ n. AreFoundAt self.now.names (shown_operation operation)
+            (named names.now.threads thread)
+            (named (operands (shown_operation operation) names.now) operand)
+            (named names.now.locs location) n.0 n.1 n.2) }
+    {
+        let own = known.threads[thread.number() as usize]?;
+        let number = known.operand(operation, operand)?;
+        let loc = known.locs[location.number() as usize]?;
+        Some((ThreadId::new(own), number, LocId::new(loc)))
+    }
+
+    // `judge_call`, for names of which some may not be known. It isn't inlined, since few lines have one.
+    #[inline(never)]
+    fn look_up_call(
         &mut self,
         names: &Names,
         known: &mut Known,

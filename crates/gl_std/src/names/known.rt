@@ -3,7 +3,7 @@ ghost use Rattle.std.specs.Prelude.{◌≡◌, ◌<◌, Some, length, position, 
 ghost use Rattle.std.specs.Str.{bytes_eq};
 ghost use Rattle.gl_std.specs.Names.{NameLists};
 ghost use Rattle.gl_std.specs.Trace.{operands};
-ghost use Rattle.gl_std.specs.bodies.Blocks.{named, AreKnown, IsKnownOf, IsKnownSoFar};
+ghost use Rattle.gl_std.specs.bodies.Blocks.{known_operands, named, AreKnown, IsKnownOf, IsKnownSoFar};
 ghost use Rattle.gl_std.specs.bodies.Shown.{shown_operation};
 
 use super::{NameList, Names};
@@ -60,6 +60,20 @@ impl Known {
         self.locks.resize(block.locks.len() as usize, None)?;
         self.locs.resize(block.locs.len() as usize, None)?;
         Ok(())
+    }
+
+    /// The number in the text of the lock or thread, as the operation says, that has this one in a block, where it is
+    /// known.
+    #[inline(always)]
+    pub(crate) fn operand(&self, operation: Operation, number: u32) -> Option<u32>
+        requires there { number < length (known_operands (shown_operation operation) self.now) }
+        ensures number { slice_get (known_operands (shown_operation operation) self.now) number
+            ≡ Some result }
+    {
+        if operation.is_on_thread() {
+            return self.threads[number as usize];
+        }
+        self.locks[number as usize]
     }
 }
 
