@@ -20,7 +20,8 @@
  * - Each session is opened with a number that no other one had, also one that was freed.
  * - No call on a thread that is in a call: from a signal handler, from a memory allocator.
  * - No call in the child of a fork(), where a call was made before in the parent.
- * - No pointer is null, and what is written to doesn't overlap with anything else that is handed over.
+ * - No pointer is null, or said to stand for more bytes than anything in C has, as by a length of -1.
+ * - What is written to doesn't overlap with anything else that is handed over.
  * - A report's text is made by its own session, unless the report has its own names (goodlock_report_by_mention,
  *   goodlock_findings_by_mention).
  * - At the end of the program, after its atexit handlers and the destructors of its static objects: all that was opened
@@ -346,13 +347,17 @@ static inline void goodlock_debug_given_(struct goodlock_debug_call_ *call, int 
     goodlock_debug_over_(call, goodlock_debug_kind_(kind), handle, sizeof(void *), true);
 }
 
-/* Checks that this pointer isn't null, and its bytes aren't those of an earlier one. */
+/* Checks that this pointer isn't null, that there can be as many bytes as are said, and that none of them is an earlier
+ * one's. */
 static inline void goodlock_debug_apart_(const struct goodlock_debug_call_ *call, unsigned own)
 {
     const struct goodlock_debug_span_ *const one = &call->spans[own];
     const uintptr_t begin = GOODLOCK_DEBUG_POINTER_AS_(uintptr_t, one->at), end = begin + one->size;
     if (begin == 0)
         goodlock_debug_tell_(call->name, "no pointer that is handed over is null", "`%s` is", one->word);
+    if (one->size > GOODLOCK_DEBUG_AS_(size_t, PTRDIFF_MAX))
+        goodlock_debug_tell_(call->name, "a pointer stands for as many bytes as are said", "`%s` can't for %zu",
+                             one->word, one->size);
     for (unsigned i = 0; i < own; i++) {
         const struct goodlock_debug_span_ *const two = &call->spans[i];
         const uintptr_t at = GOODLOCK_DEBUG_POINTER_AS_(uintptr_t, two->at);

@@ -384,6 +384,7 @@ static void try_it(void)
 
 static const char *const NULLS = "no pointer that is handed over is null";
 static const char *const APART = "what is written to overlaps with nothing else that is handed over";
+static const char *const SIZES = "a pointer stands for as many bytes as are said";
 static const char *const ZERO = "a handle is all zero until it is opened, and changed by these calls alone";
 static const char *const BACK = "a handle isn't used after it was given back, nor is a copy of it";
 static const char *const ALONE = "a handle is given to one call at a time";
@@ -765,6 +766,33 @@ static void write_beyond_the_buffer(void)
     goodlock_text(&world.session, &world.report, both.bytes + 1, 15, &both.needed);
 }
 
+/* More bytes than anything in C has. */
+static const size_t ALL_BYTES = SIZE_MAX, TOO_MANY_BYTES = (size_t)PTRDIFF_MAX + 1;
+
+static void name_a_lock_of_all_bytes(void)
+{
+    begin();
+    goodlock_lock(&world.session, world.name, ALL_BYTES, &world.lock);
+}
+
+static void name_a_place_of_too_many_bytes(void)
+{
+    begin();
+    goodlock_place(&world.session, world.name, TOO_MANY_BYTES, &world.place);
+}
+
+static void print_into_all_bytes(void)
+{
+    begin();
+    goodlock_text(&world.session, &world.report, world.buffer, ALL_BYTES, &world.needed);
+}
+
+static void print_json_into_too_many_bytes(void)
+{
+    begin();
+    goodlock_json(&world.session, &world.report, world.buffer, TOO_MANY_BYTES, &world.needed);
+}
+
 /* A lane that is full isn't closed by the call that says so. */
 static void leave_all(void)
 {
@@ -863,6 +891,14 @@ static void try_rest(void)
     try_alone("goodlock_pull", pull_here_what_was_freed_there, BACK,
               "session 7 was given back by goodlock_session_free");
     try_alone("goodlock_pull", call_there_within_a_call_here, INSIDE, "this thread is in goodlock_lock");
+}
+
+static void try_sizes(void)
+{
+    try_alone("goodlock_lock", name_a_lock_of_all_bytes, SIZES, "`name` can't for 18446744073709551615");
+    try_alone("goodlock_place", name_a_place_of_too_many_bytes, SIZES, "`name` can't for 9223372036854775808");
+    try_alone("goodlock_text", print_into_all_bytes, SIZES, "`buffer` can't for 18446744073709551615");
+    try_alone("goodlock_json", print_json_into_too_many_bytes, SIZES, "`buffer` can't for 9223372036854775808");
 }
 
 /* ---- What is told with GOODLOCK_DEBUG=2 alone */
@@ -1163,6 +1199,7 @@ int main(int count, char **words)
         for (size_t i = 0; i < COUNT(CALLS); i++)
             try_call(&CALLS[i]);
         try_rest();
+        try_sizes();
     } else if (strcmp(word, "right") == 0) {
         try_strict();
         try_right();
