@@ -7,8 +7,9 @@
 //     saver.join();
 //     std::cout << goodlock::finish().text;                 // at the end: the report of all that was recorded
 //
-// One session serves the process. start() opens it and starts a thread of its own that collects; each thread has a lane from
-// its start (goodlock::thread) or from its first lock (any other thread, whose fork isn't known then), until it ends.
+// One session serves the process. start() opens it and starts a thread of its own that collects, with all signals blocked; each
+// thread has a lane from its start (goodlock::thread) or from its first lock (any other thread, whose fork isn't known then),
+// until it ends.
 // Before start() and after finish() all of this works as std's does, and nothing is recorded.
 //
 // - goodlock::mutex, recursive_mutex, timed_mutex, recursive_timed_mutex and shared_mutex may be used with std::lock_guard,
@@ -41,6 +42,7 @@
 #include <atomic>
 #include <bitset>
 #include <chrono>
+#include <csignal>
 #include <cstdint>
 #include <exception>
 #include <mutex>
@@ -123,6 +125,22 @@ private:
     std::atomic<uint64_t> asked{0}, served{0};
 };
 
+// While it stands its thread takes no signal, nor does one that it starts.
+class without_signals {
+public:
+    without_signals() {
+        sigset_t all;
+        sigfillset(&all);
+        pthread_sigmask(SIG_SETMASK, &all, &before);
+    }
+    ~without_signals() { pthread_sigmask(SIG_SETMASK, &before, nullptr); }
+    without_signals(const without_signals &) = delete;
+    without_signals &operator=(const without_signals &) = delete;
+
+private:
+    sigset_t before;
+};
+
 // The session of the process. It is never destroyed, as threads may outlive main.
 class world {
 public:
@@ -146,6 +164,7 @@ public:
             return code;
         has_started = true; // also where it fails: a number is given to one session
         try {
+            const without_signals blocked; // they are for the program's own threads
             collector = std::thread(&world::collect, this);
         } catch (const std::exception &) { // there is no memory for it, or there are as many threads as there may be
             goodlock_session_free(&session);

@@ -162,6 +162,7 @@ ADDRESS, THREAD = "-fsanitize=address,undefined", "-fsanitize=thread"
 BUILDS = {"plain": OPTIMISED, "address": [*AS_WRITTEN, ADDRESS], "thread": [*AS_WRITTEN, THREAD]}
 WRAPS = [f"-Wl,--wrap={name}" for name in ("malloc", "calloc", "realloc", "aligned_alloc")]
 WRAPS_OF_NEW = [*WRAPS, "-Wl,--wrap=_Znwm"]
+WORDS_OF_WRAPPER = "locks names findings unstarted memory thrown signals threads ends".split()
 DEBUG = "-DGOODLOCK_DEBUG"
 LEFT = (
     "goodlock: the end of the program: what was opened is given back: "
@@ -518,7 +519,7 @@ class Tests:
         for name, words in BUILDS.items():
             c = ["g++", "-std=c++17", *STRICT, f"-I{HEADERS}", *words, source, ARCHIVE, *WRAPS_OF_NEW]
             if self.build(f"wrapper_{name}", *c, "-lpthread"):
-                for word in ("locks", "names", "findings", "unstarted", "memory", "thrown", "threads", "ends", "leave"):
+                for word in (*WORDS_OF_WRAPPER, "leave"):
                     self.counted(f"wrapper, {word}, {name}", f"wrapper_{name}", word, env=environment)
             self.busy(name, "g++", "c++11", *words)
         # Not by thread: gcc's doesn't know pthread_mutex_clocklock, by which std's limits of time go.
@@ -700,7 +701,7 @@ class Tests:
                     self.counted(f"debug, names, {word}, {name}", f"debug_names_{name}", word)
             rest = [*c, *(AS_WRITTEN if name == "plain" else more), ARCHIVE, "-lpthread"]
             if self.build(f"debug_wrapper_{name}", "g++", "-std=c++17", HERE / "wrapper.cc", *rest, *WRAPS_OF_NEW):
-                for word in ("locks", "names", "findings", "unstarted", "memory", "thrown", "threads", "ends"):
+                for word in WORDS_OF_WRAPPER:
                     self.counted(f"debug, wrapper, {word}, {name}", f"debug_wrapper_{name}", word, env=environment)
                 self.left(f"debug, wrapper, leave, {name}", 2, f"debug_wrapper_{name}", "leave")
             self.busy(f"debug {name}", "g++", "c++17", DEBUG, *(AS_WRITTEN if name == "plain" else more))

@@ -6,6 +6,7 @@
 //     library_wrapper unstarted   a session whose collecting thread is refused memory
 //     library_wrapper memory      locks that get no number, and a thread that gets no lane, as memory is refused
 //     library_wrapper thrown      locks whose name or place is refused memory by C++, which throws
+//     library_wrapper signals     signals of the process are for the program's own threads
 //     library_wrapper threads     many threads with small rings, of which some have no lane
 //     library_wrapper ends        what is locked at a thread's end, by destructors of thread_locals and of keys
 //     library_wrapper leave       main returns without finish(), while a thread records
@@ -16,9 +17,11 @@
 #include "refusing.h"
 
 #include <condition_variable>
+#include <csignal>
 #include <cstring>
 #include <memory>
 #include <new>
+#include <unistd.h>
 
 // How many requests of C++ this thread is granted yet; less than 0: all.
 static thread_local long granted = -1;
@@ -354,6 +357,28 @@ static void thrown()
     check(result.text == "cycles: 0\n", "another text:\n" + result.text);
 }
 
+// A signal that each thread of the program's own blocks waits until one of them asks for it: the collecting thread
+// takes none, though it was started before they were blocked. It runs once more was pulled than a ring holds.
+static void signals()
+{
+    sigset_t own, none;
+    sigemptyset(&none);
+    sigemptyset(&own);
+    sigaddset(&own, SIGTERM);
+    check(pthread_sigmask(SIG_SETMASK, &none, nullptr) == 0, "no signal is blocked");
+    check(goodlock::start(4, 64) == GOODLOCK_OK, "start");
+    goodlock::mutex lock;
+    for (int i = 0; i < 100; i++)
+        goodlock::guard<goodlock::mutex> hold(lock);
+    sigset_t after;
+    check(pthread_sigmask(SIG_BLOCK, &own, &after) == 0, "a signal is blocked");
+    check(sigismember(&after, SIGTERM) == 0 && sigismember(&after, SIGINT) == 0, "start() leaves signals blocked");
+    check(kill(getpid(), SIGTERM) == 0, "a signal is sent");
+    const timespec limit = {60, 0};
+    check(sigtimedwait(&own, nullptr, &limit) == SIGTERM, "the signal is taken by who waits for it");
+    check(goodlock::finish().is_settled, "the report is settled");
+}
+
 static void threads()
 {
     check(goodlock::start(10, 2) == GOODLOCK_OK, "start");
@@ -477,6 +502,8 @@ int main(int count, char **words)
         memory();
     else if (word == "thrown")
         thrown();
+    else if (word == "signals")
+        signals();
     else if (word == "threads")
         threads();
     else if (word == "ends")
