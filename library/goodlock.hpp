@@ -312,23 +312,34 @@ private:
         return is_any;
     }
 
+    // What the report says. Where memory is refused to C++ for it, that is the answer: the report is given back all the same.
     result told(uint32_t code, goodlock_report &report, bool is_settled) {
         result answer;
         answer.is_settled = is_settled;
         answer.unrecorded = unrecorded;
-        std::size_t size = 0;
-        std::vector<uint8_t> text(1);
-        if (code == GOODLOCK_OK)
-            code = goodlock_text(&session, &report, text.data(), 0, &size);
-        text.resize(size + 1);
-        if (code == GOODLOCK_OK)
-            code = goodlock_text(&session, &report, text.data(), size, &size);
+        try {
+            if (code == GOODLOCK_OK)
+                code = copy_text(report, answer.text);
+        } catch (const std::bad_alloc &) {
+            code = GOODLOCK_MEMORY;
+        }
         if (code == GOODLOCK_OK)
             code = goodlock_cycles(&report, &answer.cycles, &answer.more);
         goodlock_report_free(&report);
-        answer.text.assign(text.begin(), text.begin() + static_cast<std::ptrdiff_t>(size));
         answer.code = code;
         return answer;
+    }
+
+    uint32_t copy_text(goodlock_report &report, std::string &text) {
+        std::size_t size = 0;
+        std::vector<uint8_t> bytes(1);
+        uint32_t code = goodlock_text(&session, &report, bytes.data(), 0, &size);
+        bytes.resize(size + 1);
+        if (code == GOODLOCK_OK)
+            code = goodlock_text(&session, &report, bytes.data(), size, &size);
+        if (code == GOODLOCK_OK)
+            text.assign(bytes.begin(), bytes.begin() + static_cast<std::ptrdiff_t>(size));
+        return code;
     }
 
     session_mutex mutex; // of the session, its lanes and the names: one call at a time

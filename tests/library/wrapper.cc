@@ -6,6 +6,7 @@
 //     library_wrapper unstarted   a session whose collecting thread is refused memory
 //     library_wrapper memory      locks that get no number, and a thread that gets no lane, as memory is refused
 //     library_wrapper thrown      locks whose name or place is refused memory by C++, which throws
+//     library_wrapper texts       reports whose text is refused memory by C++
 //     library_wrapper signals     signals of the process are for the program's own threads
 //     library_wrapper threads     many threads with small rings, of which some have no lane
 //     library_wrapper ends        what is locked at a thread's end, by destructors of thread_locals and of keys
@@ -357,6 +358,26 @@ static void thrown()
     check(result.text == "cycles: 0\n", "another text:\n" + result.text);
 }
 
+// A report whose text has no memory answers so, and is given back, which AddressSanitizer and GOODLOCK_DEBUG look
+// after. So is the session at the end.
+static void texts()
+{
+    check(goodlock::start(24, 64) == GOODLOCK_OK, "start");
+    unsigned refused = 0;
+    goodlock::result result;
+    for (long request = 0; result.code != GOODLOCK_OK && request < 8; request++) {
+        check(goes_on(request, [&] { result = goodlock::report_so_far(); }),
+              "a report throws at request " + std::to_string(request));
+        check(result.code == GOODLOCK_OK || (result.code == GOODLOCK_MEMORY && result.text.empty()),
+              "a report answers " + std::to_string(result.code));
+        refused += result.code == GOODLOCK_MEMORY;
+    }
+    check(refused > 0 && result.text == "cycles: 0\n", std::to_string(refused) + " reports are refused memory");
+    check(goes_on(0, [&] { result = goodlock::finish(); }), "finish() throws");
+    check(result.code == GOODLOCK_MEMORY && result.text.empty(), "finish() without memory for the text");
+    check(goodlock::finish().code == GOODLOCK_MISUSE, "a second end");
+}
+
 // A signal that each thread of the program's own blocks waits until one of them asks for it: the collecting thread
 // takes none, though it was started before they were blocked. It runs once more was pulled than a ring holds.
 static void signals()
@@ -502,6 +523,8 @@ int main(int count, char **words)
         memory();
     else if (word == "thrown")
         thrown();
+    else if (word == "texts")
+        texts();
     else if (word == "signals")
         signals();
     else if (word == "threads")
