@@ -44,6 +44,7 @@
 #include <chrono>
 #include <csignal>
 #include <cstdint>
+#include <cstdlib>
 #include <exception>
 #include <mutex>
 #include <new>
@@ -394,6 +395,14 @@ public:
         delete own;
     }
 
+    // At the end of the program, of whose thread no key is destroyed: what it still has ends once the recording has.
+    static void end_last() {
+        if (world::get().is_open() || current() == nullptr)
+            return;
+        pthread_setspecific(world::get().key, nullptr);
+        end(current());
+    }
+
     // Where memory is refused there is no place, but the event is recorded; the next pass asks again.
     uint32_t place(const line &at) {
         const auto found = places.find(at);
@@ -611,8 +620,10 @@ private:
 // where the collecting thread can't be had GOODLOCK_MEMORY, and the session is closed then: nothing is recorded.
 inline uint32_t start(uint32_t threads = 64, uint32_t ring = 4096, uint64_t number = 1) {
     const uint32_t code = detail::world::get().start(number, threads, ring, detail::mine::end);
-    if (code == GOODLOCK_OK)
+    if (code == GOODLOCK_OK) {
         detail::mine::get();
+        std::atexit(detail::mine::end_last); // where it can't be kept, a lane is left at most
+    }
     return code;
 }
 

@@ -162,7 +162,7 @@ ADDRESS, THREAD = "-fsanitize=address,undefined", "-fsanitize=thread"
 BUILDS = {"plain": OPTIMISED, "address": [*AS_WRITTEN, ADDRESS], "thread": [*AS_WRITTEN, THREAD]}
 WRAPS = [f"-Wl,--wrap={name}" for name in ("malloc", "calloc", "realloc", "aligned_alloc")]
 WRAPS_OF_NEW = [*WRAPS, "-Wl,--wrap=_Znwm"]
-WORDS_OF_WRAPPER = "locks names findings unstarted memory thrown texts signals threads ends".split()
+WORDS_OF_WRAPPER = "locks names findings unstarted memory thrown texts signals elsewhere threads ends".split()
 DEBUG = "-DGOODLOCK_DEBUG"
 LEFT = (
     "goodlock: the end of the program: what was opened is given back: "

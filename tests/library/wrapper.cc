@@ -8,6 +8,7 @@
 //     library_wrapper thrown      locks whose name or place is refused memory by C++, which throws
 //     library_wrapper texts       reports whose text is refused memory by C++
 //     library_wrapper signals     signals of the process are for the program's own threads
+//     library_wrapper elsewhere   another thread than main's ends the recording
 //     library_wrapper threads     many threads with small rings, of which some have no lane
 //     library_wrapper ends        what is locked at a thread's end, by destructors of thread_locals and of keys
 //     library_wrapper leave       main returns without finish(), while a thread records
@@ -400,6 +401,15 @@ static void signals()
     check(goodlock::finish().is_settled, "the report is settled");
 }
 
+// main's thread has a lane then, which ends with the program: GOODLOCK_DEBUG looks after it.
+static void elsewhere()
+{
+    check(goodlock::start(4, 64) == GOODLOCK_OK, "start");
+    goodlock::mutex lock;
+    goodlock::guard<goodlock::mutex> hold(lock);
+    std::thread([] { check(!goodlock::finish().is_settled, "a report so far, as main's thread goes on"); }).join();
+}
+
 static void threads()
 {
     check(goodlock::start(10, 2) == GOODLOCK_OK, "start");
@@ -527,6 +537,8 @@ int main(int count, char **words)
         texts();
     else if (word == "signals")
         signals();
+    else if (word == "elsewhere")
+        elsewhere();
     else if (word == "threads")
         threads();
     else if (word == "ends")
