@@ -199,12 +199,12 @@ public:
         return number;
     }
 
-    // Ends a lane: closes it once there is room, and hands it in. Not where recording has stopped before: what its thread
-    // did since then is missing, so the session may not be settled with this lane.
+    // Ends a lane: closes it once there is room, which finish() makes, too, and hands it in. Not where recording has stopped
+    // before: what its thread did since then is missing, so the session may not be settled with this lane.
     void end(goodlock_lane &lane) {
         uint32_t code;
         bool is_whole = is_open();
-        while ((code = goodlock_close(&lane)) == GOODLOCK_FULL && is_whole) {
+        while ((code = goodlock_close(&lane)) == GOODLOCK_FULL) {
             std::this_thread::yield();
             is_whole = is_open();
         }

@@ -7,10 +7,11 @@
 //     library_busy filled     lanes that are full when finish() begins are in the settled report
 //     library_busy dropped    a thread of whose events one is dropped ends before the report is made
 //     library_busy late       a thread begins after finish()
+//     library_busy full       a thread ends while finish() runs, and its lane is full
 //
-// Calls that pull and nanosleep go through this file, by the linker's --wrap: time is counted in notes and in pulls, so
-// that slow machines and busy ones see the same. What isn't as it has to be is told; the last line is how many checks
-// passed and failed.
+// Calls that pull or close and nanosleep go through this file, by the linker's --wrap: time is counted in notes and in
+// pulls, so that slow machines and busy ones see the same. What isn't as it has to be is told; the last line is how
+// many checks passed and failed.
 #include "checks.hpp"
 
 #include <fstream>
@@ -28,6 +29,7 @@ static std::atomic<bool> is_blind{false}, is_slow{false}, is_over{false};
 static std::atomic<pid_t> asker{0};                         // the thread that goes to ask for the session's mutex
 static std::atomic<bool> is_held{false}, is_holding{false}; // pulls, and whether there is one that is held
 static std::atomic<bool> is_patient{false};                 // who sleeps to let the asker go first
+static std::atomic<unsigned> late_closes{0};                // once recording has stopped
 
 constexpr uint32_t BUSY = 12, LAST = BUSY + 1; // threads, and the lane of the last one beside them and the main thread
 
@@ -81,13 +83,13 @@ static uint32_t feign_a_pull(goodlock_pulled *pulled)
 }
 
 // Who pulls has the session's mutex, so a pull that is held until the asker sleeps is there when that waits for the
-// mutex.
+// mutex. Or else until it has tried to close its lane, twice, once recording has stopped: so it goes on trying.
 static void hold()
 {
     for (; is_held; std::this_thread::yield()) {
         is_holding = true;
         const char state = asker == 0 ? 'R' : state_of(asker);
-        is_held = state != 'S' && state != 'X';
+        is_held = state != 'S' && state != 'X' && late_closes < 2;
     }
     is_holding = false;
 }
@@ -133,6 +135,14 @@ uint32_t __wrap_goodlock_pull_lane(goodlock_session *session, uint32_t thread, u
     const uint32_t code = pull_by([=] { return __real_goodlock_pull_lane(session, thread, most, pulled); }, pulled);
     count_look(thread, pulled->events + pulled->ended);
     return code;
+}
+
+uint32_t __real_goodlock_close(goodlock_lane *lane);
+
+uint32_t __wrap_goodlock_close(goodlock_lane *lane)
+{
+    late_closes += !world.is_open();
+    return __real_goodlock_close(lane);
 }
 
 int __real_nanosleep(const timespec *time, timespec *rest);
@@ -320,6 +330,28 @@ static void late()
     check(result.code == GOODLOCK_OK && !result.is_settled, "a report so far, as a thread is to come");
 }
 
+// Nothing is pulled before finish(), and the lane of a thread is as full as it may be when that ends. It closes its
+// lane all the same, once finish() pulls, before it gives it back: GOODLOCK_DEBUG=2 looks after that.
+static void full()
+{
+    static std::atomic<pid_t> number{0};
+    is_blind = true;
+    check(goodlock::start(2, 4) == GOODLOCK_OK, "start");
+    goodlock::thread thread([] {
+        turns_while([](unsigned long count) { return count < 2; });
+        number = own_number();
+    });
+    wait_until([] { return number != 0; }, "the thread doesn't record");
+    asker = number.load();
+    goodlock::detail::mine::finish();
+    is_patient = true;
+    feigned = 1;
+    hold_the_next_pull();
+    const goodlock::result result = goodlock::finish();
+    thread.join();
+    check(result.code == GOODLOCK_OK && !result.is_settled, "a report beside a thread that hasn't ended isn't settled");
+}
+
 int main(int count, char **words)
 {
     const std::string word = count == 2 ? words[1] : "";
@@ -335,6 +367,8 @@ int main(int count, char **words)
         dropped();
     else if (word == "late")
         late();
+    else if (word == "full")
+        full();
     std::printf("%u passed, %u failed\n", passed, failed);
     return failed == 0 && passed > 0 ? 0 : 1;
 }

@@ -564,11 +564,13 @@ class Tests:
     def busy(self, name, compiler, standard, *words):
         """goodlock.hpp where more is recorded than can be pulled, and while the session ends."""
         c = [f"-std={standard}", *STRICT, "-Wconversion", "-Wshadow", f"-I{HEADERS}", *words]
-        wraps = [f"-Wl,--wrap={name}" for name in ("goodlock_pull", "goodlock_pull_lane", "nanosleep")]
+        wraps = [
+            f"-Wl,--wrap={name}" for name in ("goodlock_pull", "goodlock_pull_lane", "goodlock_close", "nanosleep")
+        ]
         output = f"busy_{re.sub('[^a-z0-9]', '_', name)}"
         environment = {**os.environ, "TSAN_OPTIONS": "detect_deadlocks=0"}
         if self.build(output, compiler, *c, HERE / "busy.cc", ARCHIVE, *wraps, "-lpthread"):
-            for word in ("turns", "asked", "finish", "filled", "dropped", "late"):
+            for word in ("turns", "asked", "finish", "filled", "dropped", "late", "full"):
                 self.counted(f"busy, {word}, {name}", output, word, env=environment)
 
     def forms(self, name, compiler, standard, *words, **more):
@@ -704,7 +706,7 @@ class Tests:
                 for word in WORDS_OF_WRAPPER:
                     self.counted(f"debug, wrapper, {word}, {name}", f"debug_wrapper_{name}", word, env=environment)
                 self.left(f"debug, wrapper, leave, {name}", 2, f"debug_wrapper_{name}", "leave")
-            self.busy(f"debug {name}", "g++", "c++17", DEBUG, *(AS_WRITTEN if name == "plain" else more))
+            self.busy(f"debug {name}", "g++", "c++17", f"{DEBUG}=2", *(AS_WRITTEN if name == "plain" else more))
         for source, compiler, right in (("bank.c", "gcc", BY_NAME), ("named.c", "gcc", BY_ADDRESS)):
             if self.build(f"debug_{source}.run", compiler, *OPTIMISED, EXAMPLES / source, *c, ARCHIVE, "-lpthread"):
                 self.example(f"debug, {source}", right, f"./debug_{source}.run")
