@@ -4,6 +4,7 @@
  *     cc -Ilibrary library/examples/bank.c prebuilt/libgoodlock.a -lpthread -o bank
  *     ./bank
  */
+#define _POSIX_C_SOURCE 200809L /* nanosleep, with -std=c11, too */
 #include "goodlock.h"
 
 #include <pthread.h>

@@ -316,10 +316,10 @@ class Tests:
 
     def examples(self):
         c = [*OPTIMISED, *STRICT, f"-I{HEADERS}"]
-        if self.build("bank", "gcc", "-std=gnu11", *c, EXAMPLES / "bank.c", ARCHIVE, "-lpthread"):
-            self.example("the example in C", BY_NAME, "./bank")
-        if self.build("named", "gcc", "-std=gnu11", *c, EXAMPLES / "named.c", ARCHIVE, "-lpthread"):
-            self.example("the example of names in C", BY_ADDRESS, "./named")
+        for standard in ("gnu11", "c11"):
+            for name, right in (("bank", BY_NAME), ("named", BY_ADDRESS)):
+                if self.build(name, "gcc", f"-std={standard}", *c, EXAMPLES / f"{name}.c", ARCHIVE, "-lpthread"):
+                    self.example(f"{name}.c in {standard}", right, f"./{name}")
         for standard in ("c++11", "c++17"):
             shutil.copy(EXAMPLES / "bank.cc", self.folder)
             if self.build("bank_cc", "g++", f"-std={standard}", *c, "bank.cc", ARCHIVE, "-lpthread"):
