@@ -3,6 +3,7 @@
 import json
 import os
 import pathlib
+import shutil
 
 import pytest
 from installing import run
@@ -89,6 +90,29 @@ def test_a_trace_that_is_not_there_is_named(path):
     assert status == 1
     assert "none.std: " in errors
     assert set(reports()) == {"a.std.json"}
+
+
+def test_a_link_to_nothing_in_a_folder_is_named(path):
+    """As one to a trace on a disk that isn't there."""
+    write("traces/a.std", TRACE)
+    os.symlink("../disk/b.std", "traces/b.std")
+    status, output, errors = predict_all(path, "traces")
+    assert (status, output) == (1, "")
+    assert errors == "goodlock-predict-all: traces/b.std: there is no such file\n"
+    assert set(reports()) == {"traces/a.std.json"}
+
+
+def test_a_folder_that_cannot_be_read_as_a_whole_is_named(path, tmp_path, monkeypatch):
+    """As where another user recorded, and the recorder was killed. Root reads all, so a find that fails stands in for the real one."""
+    write("traces/a.std", TRACE)
+    write("bin/find", f"#!/bin/sh\n{shutil.which('find')} \"$@\"\necho 'find: closed' >&2\nexit 1\n")
+    os.chmod("bin/find", 0o755)
+    monkeypatch.setenv("PATH", f"{tmp_path}/bin:{os.environ['PATH']}")
+    status, output, errors = predict_all(path, "traces")
+    told = "traces: a folder, and no trace; where it was given as a folder, not all of it can be read"
+    assert (status, output) == (1, "")
+    assert errors == f"find: closed\ngoodlock-predict-all: {told}\n"
+    assert set(reports()) == {"traces/a.std.json"}
 
 
 def test_a_trace_whose_folder_is_missing_is_named(path, tmp_path):
