@@ -115,6 +115,17 @@ def test_a_folder_that_cannot_be_read_as_a_whole_is_named(path, tmp_path, monkey
     assert set(reports()) == {"traces/a.std.json"}
 
 
+def test_a_refused_trace_keeps_no_report_of_an_earlier_one(path):
+    """The viewer would show its findings as this trace's. One that is gone was read, and its report stays."""
+    for name in ("a.std", "b.std"):
+        write(name, TRACE)
+    assert predict_all(path, "a.std", "b.std")[0] == 0
+    write("a.std", BAD)
+    os.remove("b.std")
+    assert predict_all(path, "a.std", "b.std")[0] == 1
+    assert set(reports()) == {"b.std.json"}
+
+
 def test_a_trace_whose_folder_is_missing_is_named(path, tmp_path):
     """Its name is made out where `..` is in it, which it can't be then."""
     (tmp_path / "here").mkdir()
