@@ -437,22 +437,36 @@ def left_behind(path):
         raise Failed("%s: nothing was changed" % error)
 
 
+def was_removed(recording, first):
+    """Whether somebody removed the recording, or a part of it, or moved it away, while the program ran: its mark isn't there any more."""
+    return first is not None and not recording.mark()
+
+
+def written(recording, settings, first, running, ends):
+    """Writes the traces or reports; what is to be said of each process, and what was damaged."""
+    if settings.live:
+        from live import report_recording
+
+        return report_recording(
+            recording, settings.trace, first, running, ends, question_of(settings), settings.functions
+        )
+    from convert import convert_recording
+
+    return convert_recording(recording, settings.trace, first, settings.functions)
+
+
 def convert_all(recording, settings, first, running, ends):
     """Writes the traces or reports; whether there is an event in any, and if not, why. `running`: the processes that still write, as
     was seen before anything is read. `ends`: the wait statuses that are known, by process."""
     from build import BuildError
-    from convert import ConvertError, convert_recording, summary_lines
+    from convert import ConvertError, summary_lines
 
+    removed = "%s was removed or moved away while the program ran" % recording.directory
     try:
-        if settings.live:
-            from live import report_recording
-
-            summaries, faults = report_recording(
-                recording, settings.trace, first, running, ends, question_of(settings), settings.functions
-            )
-        else:
-            summaries, faults = convert_recording(recording, settings.trace, first, settings.functions)
+        summaries, faults = written(recording, settings, first, running, ends)
     except (BuildError, ConvertError, OSError) as error:
+        if was_removed(recording, first):
+            return False, removed
         raise Failed("%s (what was recorded is kept in %s)" % (error, recording.directory))
     for line in summary_lines(summaries) + faults:
         say(line)
@@ -460,14 +474,20 @@ def convert_all(recording, settings, first, running, ends):
         say(line)
     became_unrecorded = say_what_became(recording, summaries, running)
     lost = say_unrecorded(recording) or any(sum(summary.lost.values()) for summary in summaries)
+    is_removed = was_removed(recording, first)
     keep_or_remove(recording, running, faults)
-    if faults:
+    found = any(summary.events for summary in summaries)
+    if is_removed:
+        why = removed
+        if found:
+            say("%s: what lay there is missing" % removed)
+    elif faults:
         why = "what was recorded is damaged"
     elif became_unrecorded:
         why = "the program became one that wasn't recorded"
     else:
         why = "what the program did was lost" if lost else recorder.reason(bool(summaries))
-    return any(summary.events for summary in summaries), why
+    return found, why
 
 
 def say_what_became(recording, summaries, running):

@@ -1,10 +1,12 @@
 """However a program ends there is its whole trace, and its status is the recorder's."""
 
+import glob
+import os
 import signal
 import subprocess
 
 import pytest
-from c_traces import PAIR, expect, known, record
+from c_traces import PAIR, convert, expect, known, record
 from known_traces import LIMIT, NO_EVENTS, RECORD, compare, cycles_in, killed, read_lines, start
 
 
@@ -95,3 +97,30 @@ def test_program_that_is_not_executable():
         file.write("text")
     run = record("./not-executable")
     assert run.status == 126 and run.files() == [], "%d %s" % (run.status, run.files())
+
+
+@pytest.mark.parametrize("options", [(), ("--live",)], ids=["trace", "live"])
+@pytest.mark.parametrize("way", ["rm -r t.std.raw.*", "rm t.std.raw.*/*"], ids=["with_its_folder", "files_alone"])
+def test_program_that_removes_its_recording(way, options):
+    """As one that cleans up the folder that it works in: nothing else is said to be why there are no events, and nothing to be kept."""
+    run = record("sh", "-c", "./locks table; " + way, options=options)
+    assert run.status == NO_EVENTS and run.files() == [], "%d %s" % (run.status, run.files())
+    assert "was removed or moved away while the program ran (the program's own status was 0)" in run.said, run.said
+    assert "is kept" not in run.said, run.said
+
+
+def test_program_that_removes_a_part_of_its_recording():
+    """What it did before is missing, which nobody could see in the trace of what it did afterwards."""
+    run = record("sh", "-c", "./locks mutexes; rm t.std.raw.*/*; ./locks table")
+    assert run.status == 0 and len(run.files()) == 1, "%d %s" % (run.status, run.files())
+    assert "was removed or moved away while the program ran: what lay there is missing" in run.said, run.said
+    compare(read_lines(run.files()[0]), known("main|acq(many+0x78)|@table\nmain|rel(many+0x78)|@table_end"))
+
+
+def test_program_that_moves_its_recording():
+    run = record("sh", "-c", "./locks table; mkdir away; mv t.std.raw.* away")
+    assert run.status == NO_EVENTS and "was removed or moved away" in run.said, "%d %s" % (run.status, run.said)
+    moved = glob.glob("away/t.std.raw.*")
+    done = convert(*moved)
+    assert done.returncode == 0 and not os.path.exists(moved[0]), done.stderr.decode()
+    compare(read_lines(*glob.glob("t.std.*")), known("main|acq(many+0x78)|@table\nmain|rel(many+0x78)|@table_end"))
