@@ -57,6 +57,8 @@ EXPORTED int pthread_once(pthread_once_t *once, void (*routine)(void))
     return result;
 }
 
+OLDER_NAME(pthread_once);
+
 EXPORTED void call_once(once_flag *once, void (*routine)(void))
 {
     ONCE(once, routine, real.call_once(once, routine));

@@ -23,6 +23,9 @@
 #define unlikely(x) __builtin_expect(!!(x), 0)
 #define EXPORTED __attribute__((visibility("default")))
 
+/* The same function by the name that the C library keeps for what was linked before 2021. */
+#define OLDER_NAME(name) EXPORTED extern __typeof__(name) __##name __attribute__((alias(#name), copy(name)))
+
 /* --- Tables from addresses to numbers --------------------------------------------------------------- */
 
 /* A table is a row of levels, each four times as large as the one before. A key stands in the first level

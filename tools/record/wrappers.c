@@ -318,3 +318,18 @@ EXPORTED int mtx_unlock(mtx_t *lock)
 {
     RELEASE(lock, LOCK_MUTEX, result == thrd_success, real.mtx_unlock(lock));
 }
+
+/* --- Older names ------------------------------------------------------------------------------------------ */
+
+OLDER_NAME(pthread_mutex_init);
+OLDER_NAME(pthread_mutex_destroy);
+OLDER_NAME(pthread_mutex_lock);
+OLDER_NAME(pthread_mutex_trylock);
+OLDER_NAME(pthread_mutex_unlock);
+OLDER_NAME(pthread_rwlock_init);
+OLDER_NAME(pthread_rwlock_destroy);
+OLDER_NAME(pthread_rwlock_rdlock);
+OLDER_NAME(pthread_rwlock_tryrdlock);
+OLDER_NAME(pthread_rwlock_wrlock);
+OLDER_NAME(pthread_rwlock_trywrlock);
+OLDER_NAME(pthread_rwlock_unlock);

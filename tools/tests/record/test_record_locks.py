@@ -4,6 +4,7 @@ import itertools
 import os
 import signal
 
+from c_programs import build_or_skip
 from c_traces import PAIR, expect, known, record
 from known_traces import RECORD, compare, ended
 
@@ -273,3 +274,27 @@ def test_lock_taken_more_often_than_goodlock_reads():
 
 def test_release_of_a_lock_that_is_not_held():
     expect("stray", "main|rel(a)|@stray" + PAIR)
+
+
+def test_older_names():
+    """By which programs and libraries call that were linked before 2021."""
+    build_or_skip("old version of the C library's functions", "gcc", [], "older.c", "older")
+    expect(
+        "",
+        """
+        main|acq(mutex)|@lock
+        main|rel(mutex)|@unlock
+        main|tryacq(mutex#2)|@trylock
+        main|rel(mutex#2)|@unlock_again
+        main|racq(rwlock)|@rdlock
+        main|rrel(rwlock)|@unlock_read
+        main|acq(rwlock)|@wrlock
+        main|rel(rwlock)|@unlock_written
+        main|tryracq(rwlock#2)|@tryrdlock
+        main|rrel(rwlock#2)|@unlock_tried
+        main|tryacq(rwlock#2)|@trywrlock
+        main|rel(rwlock#2)|@unlock_tried_again
+        main|acq(once)|@once
+        main|rel(once)|@once""",
+        source="older.c",
+    )
