@@ -97,6 +97,15 @@ RUNTIMES = (
         "std::shared_mutex, std::timed_mutex and their like don't pass the C library there and aren't in this trace as locks that "
         "are held; no tool here records them",
     ),
+    Runtime(
+        "GNU's C++ library in itself",
+        NO_FILE,
+        re.compile(
+            rb"\0N9__gnu_cxx20recursive_init_errorE\0"
+        ),  # is thrown where an initialisation comes to itself again
+        "initialisations of its static variables don't pass the recorder and aren't in this trace; they are where it is built "
+        "without -static-libstdc++",
+    ),
 )
 
 # These have no runtime in themselves, and are in every program.

@@ -24,6 +24,19 @@ LLVM = 'const char mark[] __attribute__((used)) = "_ZNSt3__119__shared_mutex_bas
 MADE_ALONE = 'const char mark[] __attribute__((used)) = "_ZNSt3__119__shared_mutex_baseC1Ev";'
 BOOST = 'const char mark[] __attribute__((used)) = "_ZNK5boost12shared_mutex10state_data13assert_lockedEv";'
 BOOST_MADE_ALONE = 'const char mark[] __attribute__((used)) = "_ZN5boost12shared_mutexC1Ev";'
+# Of C++: a static variable in a function, which takes a lock while it is initialised.
+GUARDED = r"""
+#include <mutex>
+static std::mutex lock;
+int main(int count, char **)
+{
+    static int variable = [count] {
+        std::lock_guard<std::mutex> held(lock);
+        return count - 1;
+    }();
+    return variable;
+}
+"""
 PYTHON = '__attribute__((visibility("default"))) int Py_BytesMain(void) { return 0; }'
 
 LIBRARIES = (
@@ -45,6 +58,15 @@ def compile_program(folder, output, mark, *options, name="main"):
     assert done.returncode == 0, done.stdout.decode()
 
 
+def compile_guarded(folder):
+    """A static variable in a function, with the C++ library as a shared one and in itself, without symbols."""
+    with open(folder / "guarded.cc", "w") as file:
+        file.write(GUARDED)
+    for output, options in (("shares-gnu", []), ("has-gnu", ["-static-libstdc++", "-static-libgcc", "-s"])):
+        done = subprocess.run(["g++", "-pthread", "-o", output, "guarded.cc", *options], cwd=folder)
+        assert done.returncode == 0, "building " + output
+
+
 @pytest.fixture(scope="session")
 def built(tmp_path_factory):
     """The folder of all programs, which are built in it."""
@@ -60,6 +82,7 @@ def built(tmp_path_factory):
     compile_program(folder, "makes-alone", MADE_ALONE)
     compile_program(folder, "has-boost", BOOST)
     compile_program(folder, "makes-boost-alone", BOOST_MADE_ALONE)
+    compile_guarded(folder)
     for library in LIBRARIES:
         mark = LLVM if library == "libc++" else ""
         compile_program(folder, library + ".so", mark, "-shared", "-fPIC", name="runtime")

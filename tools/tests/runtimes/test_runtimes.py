@@ -90,3 +90,14 @@ def test_llvm():
     for program in ("uses-libc++", "makes-alone"):
         said = said_of(program)
         assert said.count("\n") == 1, said
+
+
+def test_gnu():
+    """A program that has the C++ library in itself calls its functions past the recorder: no guard is in the trace."""
+    run = Run(RECORD, ["./has-gnu"])
+    assert run.status == 0 and len(run.lines()) == 2, run.said
+    assert (
+        "has GNU's C++ library in itself: initialisations of its static variables don't pass the recorder" in run.said
+    ), run.said
+    run = Run(RECORD, ["./shares-gnu"], trace="shares.std")
+    assert run.said.count("\n") == 1 and len(run.lines()) == 4, run.said
