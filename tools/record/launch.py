@@ -105,12 +105,17 @@ class Recorder:
 recorder = Recorder()
 
 
+def readable(text):
+    """Bytes of a file's name that are no text stand as a backslash, x and two digits, as in goodlock's own words."""
+    return text.encode("utf-8", "surrogateescape").decode("utf-8", "backslashreplace")
+
+
 def tell(name, text):
     """A line on standard error, in this command's name. Where that is closed, or on a full disk, nobody hears it: nothing is kept of it
     that Python would try to write in the end, with a status of its own if it can't."""
     try:
         if sys.stderr:
-            line = "%s: %s\n" % (name, text)
+            line = readable("%s: %s\n" % (name, text))
             os.write(sys.stderr.fileno(), line.encode(sys.stderr.encoding, "backslashreplace"))
     except OSError:
         pass

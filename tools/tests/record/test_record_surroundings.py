@@ -61,6 +61,14 @@ def test_a_folder_that_lies_very_deep(room, status, monkeypatch):
     assert ("can't write beside t.std: File name too long" in run.said) == (status != 0), run.said
 
 
+def test_folder_whose_name_is_no_text():
+    """It is told by its bytes."""
+    os.mkdir(b"folder\xfe")
+    done = subprocess.run([RECORD, "-o", b"folder\xfe/t.std", "./locks", "table"], stderr=subprocess.PIPE)
+    assert done.returncode == 0 and os.path.exists(b"folder\xfe/t.std"), done.stderr
+    assert done.stderr.startswith(b"goodlock-record: folder\\xfe/t.std: 2 events"), done.stderr
+
+
 def links_for_the_loader():
     """Folders of links to libraries whose path the loader can't take, of this recording and of others that go on."""
     return set(glob.glob("/tmp/goodlock-record.*"))
