@@ -315,6 +315,7 @@ impl Intake {
     }
 
     // What `offer` does with an event's note that there is room for.
+    #[inline(always)]
     fn take_event(&mut self, note: &Note, event: &Event) -> Result<Accepted, Refused>
         requires told { note.now.body ≡ Happened event.now }
         requires reserved { 1 ≤ spare_of self.old note.now.thread }
