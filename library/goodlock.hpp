@@ -39,6 +39,7 @@
 
 #include "goodlock.h"
 
+#include <algorithm>
 #include <atomic>
 #include <bitset>
 #include <chrono>
@@ -290,11 +291,14 @@ private:
         return told(code, report, is_settled);
     }
 
-    // The collecting thread's.
+    // The collecting thread's. The longer nothing comes, the longer it sleeps, up to 3 milliseconds: a program that does nothing
+    // isn't woken thousands of times a second.
     void collect() {
-        while (!is_ending)
-            if (!pull_round())
-                std::this_thread::sleep_for(std::chrono::microseconds(50));
+        for (unsigned idle = 0; !is_ending;) {
+            idle = pull_round() ? 0 : std::min(idle + 1, 6 * 32U);
+            if (idle > 0)
+                std::this_thread::sleep_for(std::chrono::microseconds(50U << idle / 32));
+        }
     }
 
     // Pulls off each lane in turn, so that a busy one doesn't keep others waiting, and gives the mutex up now and then.
