@@ -1,13 +1,13 @@
 //! Notes through lanes, in one thread and in two.
-ghost use Rattle.std.specs.Prelude.{◌≡◌, [], IfOk, IfSome};
 ghost use Rattle.gl_lane.specs.Rule.{IsPlaced};
 
 use super::expect;
-use gl_event::{Body, Event, LocId, LockId, MAX_RING, Memory, Note, ThreadId};
-use gl_lane::{Finished, LaneIn, LaneOut, lane};
+use gl_event::{Body, Event, LocId, MAX_RING, Note, ThreadId};
+use gl_lane::{LaneIn, LaneOut, lane};
 use std::alloc::Global;
 use std::process::Abort;
 use std::thread;
+use std::thread::Threads;
 
 // A note of the thread, as constants tell it.
 #[derive(Clone, Copy)]
@@ -38,13 +38,13 @@ enum Call {
 use Call::{Full, Peek, Pop, PopAll, Push, PushAll};
 use Told::{At, End};
 
-// Calls of both ends of a lane; and the notes that are left then and popped, where the recorder finishes.
+// Calls of both ends of a lane; and the notes that are left then.
 #[derive(Clone, Copy)]
 struct Case {
     name: &'static str,
     ring: u32,
     calls: &'static [Call],
-    left: Option<&'static [Told]>,
+    left: &'static [Told],
 }
 
 const CASES: &[Case] = &[
@@ -61,14 +61,14 @@ const CASES: &[Case] = &[
             Push(At(1)),
             Pop(Some(At(1))),
         ],
-        left: None,
+        left: &[],
     },
     // An end mark wants room as any note does, and can be popped after the recorder has finished.
     Case {
         name: "ring_of_one_ended",
         ring: 1,
         calls: &[Push(At(0)), Full(End(1)), Pop(Some(At(0))), Push(End(1))],
-        left: Some(&[End(1)]),
+        left: &[End(1)],
     },
     Case {
         name: "greatest_ring",
@@ -79,7 +79,7 @@ const CASES: &[Case] = &[
             PopAll(MAX_RING),
             Pop(None),
         ],
-        left: None,
+        left: &[],
     },
 ];
 
@@ -123,7 +123,6 @@ const TRIES: u32 = 10_000_000;
 // Pushes the note as soon as there is room, and answers whether there was.
 fn push_soon(recorder: &mut LaneIn, note: &Note) -> bool
     requires placed { IsPlaced note.now }
-    ensures lane { recorder.new.lane ≡ recorder.old.lane }
 {
     for _ in 0..TRIES {
         if recorder.push(*note).is_ok() {
@@ -135,9 +134,7 @@ fn push_soon(recorder: &mut LaneIn, note: &Note) -> bool
 }
 
 // Pops the next note as soon as there is one.
-fn pop_soon(collector: &mut LaneOut) -> Option<Note>
-    ensures lane { collector.new.lane ≡ collector.old.lane }
-{
+fn pop_soon(collector: &mut LaneOut) -> Option<Note> {
     for _ in 0..TRIES {
         if let Some(note) = collector.pop() {
             return Some(note);
@@ -148,9 +145,7 @@ fn pop_soon(collector: &mut LaneOut) -> Option<Note>
 }
 
 // Whether so many events are pushed, each as soon as there is room.
-fn pushes(recorder: &mut LaneIn, count: u32) -> bool
-    ensures lane { recorder.new.lane ≡ recorder.old.lane }
-{
+fn pushes(recorder: &mut LaneIn, count: u32) -> bool {
     for place in 0..count {
         if !push_soon(recorder, &event_at(place)) {
             return false;
@@ -160,9 +155,7 @@ fn pushes(recorder: &mut LaneIn, count: u32) -> bool
 }
 
 // Whether so many events are popped, each as soon as there is one.
-fn pops(collector: &mut LaneOut, count: u32) -> bool
-    ensures lane { collector.new.lane ≡ collector.old.lane }
-{
+fn pops(collector: &mut LaneOut, count: u32) -> bool {
     for place in 0..count {
         if pop_soon(collector) != Some(event_at(place)) {
             return false;
@@ -172,9 +165,7 @@ fn pops(collector: &mut LaneOut, count: u32) -> bool
 }
 
 // Whether the note is pushed, or else is handed back.
-fn is_pushed(recorder: &mut LaneIn, told: Told, has_room: bool) -> bool
-    ensures lane { recorder.new.lane ≡ recorder.old.lane }
-{
+fn is_pushed(recorder: &mut LaneIn, told: Told, has_room: bool) -> bool {
     match recorder.push(note_of(told)) {
         Ok(()) => has_room,
         Err(back) => !has_room && back == note_of(told),
@@ -191,10 +182,7 @@ fn is_note(note: Option<Note>, wanted: Option<Told>) -> bool {
 }
 
 // Whether the call is answered so.
-fn answers(recorder: &mut LaneIn, collector: &mut LaneOut, call: &Call) -> bool
-    ensures recorder { recorder.new.lane ≡ recorder.old.lane }
-    ensures collector { collector.new.lane ≡ collector.old.lane }
-{
+fn answers(recorder: &mut LaneIn, collector: &mut LaneOut, call: &Call) -> bool {
     match *call {
         Push(told) => is_pushed(recorder, told, true),
         Full(told) => is_pushed(recorder, told, false),
@@ -206,10 +194,7 @@ fn answers(recorder: &mut LaneIn, collector: &mut LaneOut, call: &Call) -> bool
 }
 
 // Both ends answer each call as it is wanted.
-fn expect_answers(rt: &impl Abort, recorder: &mut LaneIn, collector: &mut LaneOut, case: &Case)
-    ensures recorder { recorder.new.lane ≡ recorder.old.lane }
-    ensures collector { collector.new.lane ≡ collector.old.lane }
-{
+fn expect_answers(rt: &impl Abort, recorder: &mut LaneIn, collector: &mut LaneOut, case: &Case) {
     for (at, call) in case.calls.iter().enumerate() {
         expect(rt, answers(recorder, collector, call), case.name, at);
     }
@@ -225,116 +210,82 @@ fn pops_left(collector: &mut LaneOut, left: &[Told]) -> bool {
     collector.peek().is_none()
 }
 
-// Whether the recorder finishes and leaves these notes.
-fn finishes(recorder: LaneIn, collector: LaneOut, left: &[Told]) -> bool
-    requires { recorder.lane ≡ collector.lane }
-{
-    let mut collector = collector;
-    match recorder.finish() {
-        Some(mut finished) => {
-            collector.confirm(&mut finished);
-            pops_left(&mut collector, left)
-        }
-        None => false,
-    }
-}
-
 // The two ends of a lane.
-fn both_ends(alloc: Global, ring: u32) -> Option<(LaneIn, LaneOut)>
-    ensures { IfSome result (λ ends. ends.0.lane ≡ ends.1.lane) }
-{
+fn both_ends(alloc: Global, ring: u32) -> Option<(LaneIn, LaneOut)> {
     if ring == 0 || ring > MAX_RING {
         return None;
     }
     lane(alloc, ring).ok()
 }
 
+// Both ends of a lane answer as the case wants, and the recorder can finish while the collector is there: what it left
+// is popped then.
+fn expect_case(rt: &impl Abort, ends: (LaneIn, LaneOut), case: &Case) {
+    let (mut recorder, mut collector) = ends;
+    expect_answers(rt, &mut recorder, &mut collector, case);
+    let is_left = recorder.finish().is_some() && pops_left(&mut collector, case.left);
+    assert!(rt; is_left, "{}: left", case.name);
+}
+
 #[test]
 fn lanes_answer(rt: HostRuntime) {
     for case in CASES {
-        let (mut recorder, mut collector) = both_ends(rt.alloc(), case.ring).expect(&rt, case.name);
-        expect_answers(&rt, &mut recorder, &mut collector, case);
-        if let Some(left) = case.left {
-            assert!(rt; finishes(recorder, collector, left), "{}: left", case.name);
-        }
+        expect_case(
+            &rt,
+            both_ends(rt.alloc(), case.ring).expect(&rt, case.name),
+            case,
+        );
     }
 }
 
-// What is pushed before the pushing ends is popped in its order, without another look.
-fn through(alloc: Global, first: Note, second: Note) -> Result<Option<(Note, Note)>, Memory>
-    requires first { IsPlaced first }
-    requires second { IsPlaced second }
-    ensures { IfOk result
-        (λ popped. IfSome popped (λ notes. (notes.0 ≡ first) × (notes.1 ≡ second))) }
-{
-    let (mut recorder, mut collector) = lane(alloc, 2)?;
-    let (Ok(()), Ok(())) = (recorder.push(first), recorder.push(second)) else {
-        return Ok(None);
-    };
-    let Some(mut finished) = recorder.finish() else {
-        return Ok(None);
-    };
-    collector.confirm(&mut finished);
-    Ok(Some((collector.pop_known(), collector.pop_known())))
+// Whether a recorder is told that its collector is gone, and not before.
+fn is_told(recorder: &mut LaneIn, collector: LaneOut) -> bool {
+    let was_told = recorder.is_abandoned();
+    drop(collector);
+    !was_told && recorder.is_abandoned()
 }
 
-#[test]
-fn confirmed_after_finish(rt: HostRuntime) {
-    let popped = through(rt.alloc(), event_at(0), end_of(1));
-    assert!(rt; popped == Ok(Some((event_at(0), end_of(1)))));
-}
-
-// Whether a recorder whose collector is gone can push, and leaves nothing.
-fn leaves_nothing(recorder: LaneIn) -> bool {
-    let mut recorder = recorder;
-    recorder.push(event_at(0)) == Ok(()) && recorder.finish().is_none()
+// Whether it can push then, and leaves nothing.
+fn leaves_nothing(ends: (LaneIn, LaneOut)) -> bool {
+    let (mut recorder, collector) = ends;
+    is_told(&mut recorder, collector)
+        && recorder.push(event_at(0)) == Ok(())
+        && recorder.finish().is_none()
 }
 
 #[test]
 fn nobody_left_to_collect(rt: HostRuntime) {
-    let (mut recorder, collector) = both_ends(rt.alloc(), 1).expect(&rt, "a lane");
-    assert!(rt; !recorder.is_abandoned());
-    drop(collector);
-    assert!(rt; recorder.is_abandoned());
-    assert!(rt; leaves_nothing(recorder));
+    assert!(rt; leaves_nothing(both_ends(rt.alloc(), 1).expect(&rt, "a lane")));
 }
 
 // How many events one thread pushes and another one pops.
 const EVENTS: u32 = 10_000;
 
-// Pushes the events and the end mark.
-fn push_all(recorder: LaneIn) -> Option<Finished>
-    ensures lane { IfSome result (λ finished. finished.lane ≡ recorder.lane) }
-{
+// Pushes the events and the end mark, and answers whether the pushing could be ended.
+fn push_all(recorder: LaneIn) -> bool {
     let mut recorder = recorder;
-    if !pushes(&mut recorder, EVENTS) || !push_soon(&mut recorder, &end_of(EVENTS)) {
-        return None;
-    }
-    recorder.finish()
+    pushes(&mut recorder, EVENTS)
+        && push_soon(&mut recorder, &end_of(EVENTS))
+        && recorder.finish().is_some()
 }
 
 // Pops the events and the end mark, and answers whether they came in their order.
-fn pop_all(collector: LaneOut) -> (LaneOut, bool)
-    ensures lane { result.0.lane ≡ collector.lane }
-{
-    let mut collector = collector;
-    let in_order = pops(&mut collector, EVENTS) && pop_soon(&mut collector) == Some(end_of(EVENTS));
-    (collector, in_order)
+fn pop_all(collector: &mut LaneOut) -> bool {
+    pops(collector, EVENTS) && pop_soon(collector) == Some(end_of(EVENTS))
+}
+
+// Whether the notes pass from one thread to another one, and none is left.
+fn pass<R: Threads + Sync>(rt: &R, recorder: LaneIn, collector: &mut LaneOut) -> bool {
+    let (are_pushed, in_order) = thread::join(
+        rt,
+        move || push_all(recorder),
+        || pop_all(collector),
+    );
+    are_pushed && in_order && collector.peek().is_none()
 }
 
 #[test]
 fn ten_thousand_events(rt: HostRuntime) {
-    let (recorder, collector) = both_ends(rt.alloc(), 64).expect(&rt, "a lane");
-    let (finished, (mut collector, in_order)) = thread::join(
-        &rt,
-        move || -> Option<Finished>
-            ensures { IfSome result (λ finished. finished.lane ≡ recorder.lane) }
-        { push_all(recorder) },
-        move || -> (LaneOut, bool)
-            ensures { result.0.lane ≡ collector.lane }
-        { pop_all(collector) },
-    );
-    let mut finished = finished.expect(&rt, "every note was pushed");
-    collector.confirm(&mut finished);
-    assert!(rt; in_order && collector.peek().is_none());
+    let (recorder, mut collector) = both_ends(rt.alloc(), 64).expect(&rt, "a lane");
+    assert!(rt; pass(&rt, recorder, &mut collector));
 }

@@ -1,8 +1,8 @@
 //! Notes through a thread's own lane.
-ghost use Rattle.std.specs.Prelude.{◌≡◌, [], IfOk, IfSome};
+ghost use Rattle.std.specs.Prelude.{◌≡◌};
 ghost use Rattle.gl_lane.specs.Rule.{IsPlaced};
 
-use gl_event::{Body, Event, LocId, MAX_RING, Memory, Note, ThreadId};
+use gl_event::{Body, Event, LocId, MAX_RING, Note, ThreadId};
 use gl_lane::{OwnLaneIn, OwnLaneOut, own_lane};
 use std::alloc::Global;
 use std::marker::Model;
@@ -20,19 +20,6 @@ fn event_at(place: u32) -> Note
             thread: ThreadId::new(4),
             loc: LocId::new(7),
         }),
-    }
-}
-
-// The thread's end mark.
-fn end_of(count: u32) -> Note
-    ensures own { result.thread ≡ 3 }
-    ensures there { result.place ≡ count }
-    ensures placed { IsPlaced result }
-{
-    Note {
-        thread: ThreadId::new(3),
-        place: count,
-        body: Body::Ended { count },
     }
 }
 
@@ -60,7 +47,6 @@ impl Recorder {
     fn push(&mut self, note: Note) -> Option<bool>
         requires own { note.thread ≡ 3 }
         requires placed { IsPlaced note }
-        ensures lane { self.new.lane ≡ self.old.lane }
     {
         let more = self.pushed.checked_add(1)?;
         if note.place != self.pushed {
@@ -78,9 +64,7 @@ impl Recorder {
 }
 
 // The two ends of a lane.
-fn both_ends(alloc: Global, ring: u32) -> Option<(Recorder, OwnLaneOut)>
-    ensures { IfSome result (λ ends. ends.0.lane ≡ ends.1.lane) }
-{
+fn both_ends(alloc: Global, ring: u32) -> Option<(Recorder, OwnLaneOut)> {
     if ring == 0 || ring > MAX_RING {
         return None;
     }
@@ -111,58 +95,49 @@ fn pops(collector: &mut OwnLaneOut, count: u32) -> bool {
 
 // More than are taken off a ring together, and then there is room for more.
 fn come_out_whole(recorder: &mut Recorder, collector: &mut OwnLaneOut) -> bool {
-    pushes(recorder, 20)
+    collector.pop().is_none()
+        && pushes(recorder, 20)
         && recorder.push(event_at(20)) == Some(false)
         && pops(collector, 20)
         && recorder.push(event_at(20)) == Some(true)
-        && recorder.push(end_of(21)) == Some(true)
 }
 
-// What a collector pops that sees this one last, and then nothing.
-fn end_with(collector: &mut OwnLaneOut, event: Note, end: Note) -> bool {
-    collector.pop() == Some(event) && collector.pop() == Some(end) && collector.pop().is_none()
+// Whether the recorder's end leaves something as it finishes.
+fn finishes(recorder: Recorder) -> bool {
+    let Recorder { lane, pushed: _ } = recorder;
+    lane.finish().is_some()
+}
+
+// Whether they do, and the recorder can finish while the collector is there: what it pushed last is popped then.
+fn are_whole(ends: (Recorder, OwnLaneOut)) -> bool {
+    let (mut recorder, mut collector) = ends;
+    come_out_whole(&mut recorder, &mut collector)
+        && finishes(recorder)
+        && collector.pop() == Some(event_at(20))
+        && collector.peek().is_none()
 }
 
 #[test]
 fn notes_come_out_whole(rt: HostRuntime) {
-    let (mut recorder, mut collector) = both_ends(rt.alloc(), 20).expect(&rt, "a lane");
-    assert!(rt; collector.peek().is_none() && collector.pop().is_none());
-    assert!(rt; come_out_whole(&mut recorder, &mut collector));
-    assert!(rt; end_with(&mut collector, event_at(20), end_of(21)));
+    assert!(rt; are_whole(both_ends(rt.alloc(), 20).expect(&rt, "a lane")));
 }
 
-// What is pushed before the pushing ends is popped in its order, without another look.
-fn through(alloc: Global, first: Note, second: Note) -> Result<Option<(Note, Note)>, Memory>
-    requires own { (first.thread ≡ 3) × (second.thread ≡ 3) }
-    requires in_turn { (first.place ≡ 0) × (second.place ≡ 1) }
-    requires first { IsPlaced first }
-    requires second { IsPlaced second }
-    ensures { IfOk result
-        (λ popped. IfSome popped (λ notes. (notes.0 ≡ first) × (notes.1 ≡ second))) }
-{
-    let (mut recorder, mut collector) = own_lane(alloc, ThreadId::new(3), 2)?;
-    let (Ok(()), Ok(())) = (recorder.push(first), recorder.push(second)) else {
-        return Ok(None);
-    };
-    let Some(mut finished) = recorder.finish() else {
-        return Ok(None);
-    };
-    collector.confirm(&mut finished);
-    Ok(Some((collector.pop_known(), collector.pop_known())))
+// Whether a recorder is told that its collector is gone, and not before.
+fn is_told(recorder: &mut Recorder, collector: OwnLaneOut) -> bool {
+    let was_told = recorder.lane.is_abandoned();
+    drop(collector);
+    !was_told && recorder.lane.is_abandoned()
 }
 
-#[test]
-fn confirmed_after_finish(rt: HostRuntime) {
-    let popped = through(rt.alloc(), event_at(0), end_of(1));
-    assert!(rt; popped == Ok(Some((event_at(0), end_of(1)))));
+// Whether it leaves nothing then.
+fn leaves_nothing(ends: (Recorder, OwnLaneOut)) -> bool {
+    let (mut recorder, collector) = ends;
+    recorder.push(event_at(0)) == Some(true)
+        && is_told(&mut recorder, collector)
+        && !finishes(recorder)
 }
 
 #[test]
 fn nobody_left_to_collect(rt: HostRuntime) {
-    let (mut recorder, collector) = both_ends(rt.alloc(), 1).expect(&rt, "a lane");
-    assert!(rt; recorder.push(event_at(0)) == Some(true));
-    drop(collector);
-    assert!(rt; recorder.lane.is_abandoned());
-    let Recorder { lane, pushed: _ } = recorder;
-    assert!(rt; lane.finish().is_none());
+    assert!(rt; leaves_nothing(both_ends(rt.alloc(), 1).expect(&rt, "a lane")));
 }

@@ -1,12 +1,11 @@
 //! A reader and a writer of std that go on byte by byte, and stop.
 use std::io::{self, ErrorKind};
 
-// What a reader gives once its text has been read. It fails once, and then is at its end.
+// What a reader does once its text has been read: it is at its end, or fails once, and then is.
 #[derive(Clone, Copy)]
 pub(super) enum After {
     End,
     Fails(ErrorKind),
-    Byte(u8),
 }
 
 // A reader that gives one byte a call, and counts its calls.
@@ -38,10 +37,6 @@ impl io::Read for Gives<'_> {
         match self.after {
             After::End => Ok(0),
             After::Fails(kind) => Err(self.failure(kind)),
-            After::Byte(byte) => {
-                buffer[0] = byte;
-                Ok(1)
-            }
         }
     }
 }

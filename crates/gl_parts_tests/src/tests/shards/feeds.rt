@@ -1,23 +1,18 @@
 //! Edges through feeds, in one thread and in several.
-ghost use Rattle.std.specs.Prelude.{◌≡◌, IfOk, IfSome};
-
 use super::super::expect;
-use super::{at, edge, sample_of};
-use gl_edges::{Edge, Sample};
-use gl_event::{MAX_RING, Memory};
-use gl_shards::{Gate, Gone, Inlet, Open, Outlet, Sent, Served, Table, feed, serve};
+use super::{at, edge};
+use gl_event::MAX_RING;
+use gl_shards::{Gate, Gone, Inlet, Outlet, feed, serve};
 use std::alloc::Global;
 use std::sync::Wait;
 use std::sync::atomic::{AtomicU64, Ordering};
 use std::thread;
 use std::thread::Threads;
 
-mod meeting;
-
 // How a feed is used, and what is wanted then.
-#[derive(Clone, Copy)]
+#[derive(Clone, Copy, PartialEq)]
 enum Course {
-    // an end mark follows the edges, and the worker's table has these
+    // an end mark follows the edges, and the worker meets it
     Ended,
     // no end mark follows, and the worker is cut off
     Cut,
@@ -26,8 +21,8 @@ enum Course {
 }
 
 // A feed with room for so many messages, how many edges are sent through it, its course, and whether both ends run
-// at once, or the worker after the sender. The shard that the worker is told; and what its gate adds up, where it
-// isn't the open one: how often it is passed, how many edges came before, and the shard.
+// at once, or the worker after the sender. The shard that the worker is told; and what its gate adds up: how often it is
+// passed, how many edges came before, and the shard.
 #[derive(Clone, Copy)]
 struct Case {
     name: &'static str,
@@ -36,29 +31,30 @@ struct Case {
     course: Course,
     at_once: bool,
     shard: u32,
-    sums: Option<[u64; 3]>,
+    sums: [u64; 3],
 }
 
 const CASES: &[Case] = &[
-    // Edges that are sent before the worker begins are in its table.
-    Case {
-        name: "sent_before",
-        room: 3,
-        edges: 2,
-        course: Course::Ended,
-        at_once: false,
-        shard: 0,
-        sums: None,
-    },
-    // Nothing was sent: the table is empty.
+    // Nothing was sent.
     Case {
         name: "nothing_sent",
         room: MAX_RING,
         edges: 0,
         course: Course::Ended,
         at_once: false,
-        shard: 0,
-        sums: None,
+        shard: 7,
+        sums: [0, 0, 0],
+    },
+    // The gate is told the shard, and for each edge how many came before it. Edges that were sent before the worker
+    // begins pass it too.
+    Case {
+        name: "gate_counts",
+        room: 5,
+        edges: 4,
+        course: Course::Ended,
+        at_once: false,
+        shard: 7,
+        sums: [4, 6, 28],
     },
     // A worker whose sender is gone without an end mark is cut off.
     Case {
@@ -68,17 +64,7 @@ const CASES: &[Case] = &[
         course: Course::Cut,
         at_once: false,
         shard: 0,
-        sums: None,
-    },
-    // A sender that waits for room, or comes to wait for it, is told that its worker is gone.
-    Case {
-        name: "inlet_dropped_later",
-        room: 1,
-        edges: 2,
-        course: Course::Lone,
-        at_once: true,
-        shard: 0,
-        sums: None,
+        sums: [1, 0, 0],
     },
     // A worker that waits for an edge, or comes to wait for it, is told that its sender is gone.
     Case {
@@ -88,17 +74,17 @@ const CASES: &[Case] = &[
         course: Course::Cut,
         at_once: true,
         shard: 0,
-        sums: None,
+        sums: [1, 0, 0],
     },
-    // The gate is told the shard, and for each edge how many came before it.
+    // A sender that waits for room, or comes to wait for it, is told that its worker is gone.
     Case {
-        name: "gate_counts",
-        room: 5,
-        edges: 4,
-        course: Course::Ended,
-        at_once: false,
-        shard: 7,
-        sums: Some([4, 6, 28]),
+        name: "inlet_dropped_later",
+        room: 1,
+        edges: 2,
+        course: Course::Lone,
+        at_once: true,
+        shard: 0,
+        sums: [0, 0, 0],
     },
     // One thread sends through a feed with room for one edge, and another one receives. The gate is passed by
     // each of them, however many there are.
@@ -109,7 +95,7 @@ const CASES: &[Case] = &[
         course: Course::Ended,
         at_once: true,
         shard: 3,
-        sums: Some([3_000, 4_498_500, 9_000]),
+        sums: [3_000, 4_498_500, 9_000],
     },
 ];
 
@@ -145,175 +131,101 @@ impl Counter {
     }
 }
 
-// An edge from each of so many locks to lock 0, at the place that is the number of the lock.
-fn edges_from(alloc: Global, locks: u32) -> Result<Vec<(Edge, Sample)>, Memory> {
-    let mut pairs = Vec::new(alloc);
-    for lock in 1..=locks {
-        pairs.push((edge(alloc, (0, lock, 0))?, at(lock)))?;
+// Whether an edge is sent; not where the worker is gone. Nothing is told of the rest, so that little is known where it
+// is looked at.
+fn is_sent(rt: &impl Wait, outlet: &mut Outlet, alloc: Global, lock: u32) -> bool {
+    match edge(alloc, lock, 0) {
+        Ok(edge) => outlet.send(rt, edge, at(lock)).is_ok(),
+        Err(_) => false,
     }
-    Ok(pairs)
 }
 
-// Whether the table has as many edges as these, and the first and the last one of them.
-fn has_edges_from(alloc: Global, table: &Table, locks: u32) -> bool {
-    table.len() == locks as usize
-        && (locks == 0
-            || sample_of(alloc, table, (0, 1, 0)) == Ok(Some(at(1)))
-                && sample_of(alloc, table, (0, locks, 0)) == Ok(Some(at(locks))))
-}
-
-// Sends these edges, and answers whether all were sent.
-fn send_each<R: Wait>(rt: &R, outlet: &mut Outlet, pairs: Vec<(Edge, Sample)>) -> bool
-    ensures feed { outlet.new.feed ≡ outlet.old.feed }
-{
-    for (edge, sample) in pairs {
-        if outlet.send(rt, edge, sample).is_err() {
+// Sends an edge from each of so many locks to lock 0, and answers whether all were sent.
+fn send_each(rt: &impl Wait, outlet: &mut Outlet, alloc: Global, locks: u32) -> bool {
+    for lock in 1..=locks {
+        if !is_sent(rt, outlet, alloc, lock) {
             return false;
         }
     }
     true
 }
 
-// Sends these edges, and the end mark where it is to follow; else the sender's end is dropped.
-fn send_all<R: Wait>(
-    rt: &R,
-    outlet: Outlet,
-    pairs: Vec<(Edge, Sample)>,
-    course: Course,
-) -> Result<Option<Sent>, Gone>
-    ensures feed { IfOk result (λ left. IfSome left (λ sent. sent.feed ≡ outlet.feed)) }
-{
+// What the sender of so many edges meets: it sends them, and the end mark where it is to follow; else its end is dropped.
+fn send_all(rt: &impl Wait, alloc: Global, outlet: Outlet, edges: u32, course: Course) -> Course {
     let mut outlet = outlet;
-    if !send_each(rt, &mut outlet, pairs) {
-        return Err(Gone);
+    if !send_each(rt, &mut outlet, alloc, edges) {
+        return Course::Lone;
     }
-    if let Course::Cut = course {
-        return Ok(None);
+    if course == Course::Cut {
+        return Course::Cut;
     }
     match outlet.end(rt) {
-        Ok(sent) => Ok(Some(sent)),
-        Err(gone) => Err(gone),
+        Ok(_) => Course::Ended,
+        Err(Gone) => Course::Lone,
     }
 }
 
-// Serves through the gate, or the open one; where there is no worker, its end is dropped.
-fn work<R: Wait>(
-    rt: &R,
-    alloc: Global,
-    inlet: Inlet,
-    case: &Case,
-    counter: &Counter,
-) -> Option<Served>
-    ensures feed { IfSome result (λ served. served.feed ≡ inlet.feed) }
-{
-    match (case.course, case.sums) {
-        (Course::Lone, _) => None,
-        (_, Some(_)) => Some(serve(rt, alloc, inlet, case.shard, counter)),
-        (_, None) => Some(serve(rt, alloc, inlet, case.shard, &Open)),
+// What the worker meets, which serves through the gate; where there is none, its end is dropped.
+fn work(rt: &impl Wait, alloc: Global, inlet: Inlet, case: &Case, counter: &Counter) -> Course {
+    if case.course == Course::Lone {
+        return Course::Lone;
     }
+    if serve(rt, alloc, inlet, case.shard, counter).cut() {
+        return Course::Cut;
+    }
+    Course::Ended
 }
 
-type Left = (Result<Option<Sent>, Gone>, Option<Served>);
-
-// What both ends leave behind, each of which runs in a thread of its own.
+// What both ends meet, each of which runs in a thread of its own.
 fn run_at_once<R: Threads + Wait + Sync>(
     rt: &R,
     alloc: Global,
     ends: (Outlet, Inlet),
-    pairs: Vec<(Edge, Sample)>,
     case: &Case,
     counter: &Counter,
-) -> Left
-    ensures sent { IfOk result.0 (λ left. IfSome left (λ sent. sent.feed ≡ ends.0.feed)) }
-    ensures served { IfSome result.1 (λ served. served.feed ≡ ends.1.feed) }
-{
+) -> (Course, Course) {
     let (outlet, inlet) = ends;
     thread::join(
         rt,
-        move || -> Result<Option<Sent>, Gone>
-            ensures { IfOk result (λ left. IfSome left (λ sent. sent.feed ≡ outlet.feed)) }
-        { send_all(rt, outlet, pairs, case.course) },
-        move || -> Option<Served>
-            ensures { IfSome result (λ served. served.feed ≡ inlet.feed) }
-        { work(rt, alloc, inlet, case, counter) },
+        move || send_all(rt, alloc, outlet, case.edges, case.course),
+        move || work(rt, alloc, inlet, case, counter),
     )
 }
 
-// What both ends leave behind.
+// What both ends meet.
 fn run<R: Threads + Wait + Sync>(
     rt: &R,
     alloc: Global,
     ends: (Outlet, Inlet),
-    pairs: Vec<(Edge, Sample)>,
     case: &Case,
     counter: &Counter,
-) -> Left
-    ensures sent { IfOk result.0 (λ left. IfSome left (λ sent. sent.feed ≡ ends.0.feed)) }
-    ensures served { IfSome result.1 (λ served. served.feed ≡ ends.1.feed) }
-{
+) -> (Course, Course) {
     if case.at_once {
-        return run_at_once(rt, alloc, ends, pairs, case, counter);
+        return run_at_once(rt, alloc, ends, case, counter);
     }
     let (outlet, inlet) = ends;
-    let sent = send_all(rt, outlet, pairs, case.course);
-    (sent, work(rt, alloc, inlet, case, counter))
+    let sender = send_all(rt, alloc, outlet, case.edges, case.course);
+    (sender, work(rt, alloc, inlet, case, counter))
 }
 
-// Whether the worker's table has the edges, which it was sent.
-fn settles(alloc: Global, served: Served, sent: Sent, edges: u32) -> bool
-    requires { served.feed ≡ sent.feed }
-{
-    let was_cut = served.cut();
-    match served.settle(sent) {
-        Ok(table) => !was_cut && has_edges_from(alloc, &table, edges),
-        Err(_) => false,
+// The two ends of a feed.
+fn both_ends(alloc: Global, room: u32) -> Option<(Outlet, Inlet)> {
+    if room == 0 || room > MAX_RING {
+        return None;
     }
+    feed(alloc, room).ok()
 }
 
-// Whether both ends left what is wanted.
-fn is_left(alloc: Global, left: Left, case: &Case) -> bool
-    requires { IfOk left.0 (λ it. IfSome it
-        (λ sent. IfSome left.1 (λ served. served.feed ≡ sent.feed))) }
-{
-    match (left.0, left.1, case.course) {
-        (Ok(Some(sent)), Some(served), Course::Ended) => settles(alloc, served, sent, case.edges),
-        (Ok(None), Some(served), Course::Cut) => served.cut(),
-        (Err(Gone), None, Course::Lone) => true,
-        _ => false,
-    }
-}
-
-// Whether a feed is used so, and leaves what is wanted.
-fn is_used<R: Threads + Wait + Sync>(
-    rt: &R,
-    alloc: Global,
-    case: &Case,
-    counter: &Counter,
-) -> bool {
-    if case.room == 0 || case.room > MAX_RING {
-        return false;
-    }
-    let Ok(pairs) = edges_from(alloc, case.edges) else {
-        return false;
-    };
-    match feed(alloc, case.room) {
-        Ok(ends) => is_left(alloc, run(rt, alloc, ends, pairs, case, counter), case),
-        Err(_) => false,
-    }
-}
-
-// Whether the gate added up what is wanted, where it isn't the open one.
-fn is_summed(counter: &Counter, case: &Case) -> bool {
-    match case.sums {
-        Some(sums) => counter.has(sums),
-        None => true,
-    }
-}
-
-// Whether a feed is used so, and its gate added up what is wanted.
+// Whether both ends meet what is wanted, and the gate added up what is.
 fn is_right<R: Threads + Wait + Sync>(rt: &R, alloc: Global, case: &Case) -> bool {
     let counter = Counter::new();
-    is_used(rt, alloc, case, &counter) && is_summed(&counter, case)
+    match both_ends(alloc, case.room) {
+        Some(ends) => {
+            let (sender, worker) = run(rt, alloc, ends, case, &counter);
+            sender == case.course && worker == case.course && counter.has(case.sums)
+        }
+        None => false,
+    }
 }
 
 #[test]
@@ -323,34 +235,20 @@ fn feeds(rt: HostRuntime) {
     }
 }
 
-// Whether the edge is handed back, with its sample.
-fn is_back(answer: Result<(), (Edge, Sample)>, same: &Edge) -> bool {
-    match answer {
-        Ok(()) => false,
-        Err((edge, sample)) => edge == *same && sample == at(7),
-    }
-}
-
-// Whether a sender whose worker is gone gets its edge back, and no `Sent`.
-fn gets_back<R: Wait>(rt: &R, outlet: Outlet, edge: Edge, same: &Edge) -> bool {
-    let mut outlet = outlet;
-    is_back(outlet.send(rt, edge, at(7)), same) && outlet.end(rt).err() == Some(Gone)
-}
-
-// Whether it does with these edges, of which the first is sent.
-fn is_lone(rt: &impl Wait, alloc: Global, edge: Edge, same: &Edge) -> bool {
-    match feed(alloc, 2) {
-        Ok((outlet, inlet)) => {
+// Whether a sender whose worker was gone before is told so, by its first edge or, where it has none, by the end mark.
+fn is_told(rt: &impl Wait, alloc: Global, edges: u32) -> bool {
+    match both_ends(alloc, 2) {
+        Some((outlet, inlet)) => {
             drop(inlet);
-            gets_back(rt, outlet, edge, same)
+            send_all(rt, alloc, outlet, edges, Course::Ended) == Course::Lone
         }
-        Err(_) => false,
+        None => false,
     }
 }
 
 #[test]
 fn inlet_dropped(rt: HostRuntime) {
-    let lone = edge(rt.alloc(), (0, 1, 2)).ok().expect(&rt, "an edge");
-    let same = edge(rt.alloc(), (0, 1, 2)).ok().expect(&rt, "an edge");
-    assert!(rt; is_lone(&rt, rt.alloc(), lone, &same));
+    for edges in 0..2 {
+        assert!(rt; is_told(&rt, rt.alloc(), edges), "{edges} edges");
+    }
 }
