@@ -13,6 +13,7 @@ where they aren't yet, as the gate builds them: without their proofs, which a ch
 import argparse
 import bisect
 import collections
+import contextlib
 import os
 import pathlib
 import re
@@ -31,6 +32,19 @@ PARTS = """Answers AnswersTried Carried Code Given Goals Invariants Key Kinds La
     Symbol TheImpl TheLaws TheLink TheReach Tie View decls""".split()
 
 
+def used(process):
+    """The seconds of the processor that a process has used, with its children, also those that still run."""
+    with open(f"/proc/{process}/stat") as file:
+        fields = file.read().rpartition(")")[2].split()
+    seconds = sum(map(int, fields[11:15])) / os.sysconf("SC_CLK_TCK")
+    with open(f"/proc/{process}/task/{process}/children") as file:
+        children = file.read().split()
+    for child in children:
+        with contextlib.suppress(OSError):  # it has ended meanwhile
+            seconds += used(child)
+    return seconds
+
+
 class Clock(threading.Thread):
     """What a process has used of the processor, as time passes."""
 
@@ -42,12 +56,11 @@ class Clock(threading.Thread):
     def run(self):
         while self.process.poll() is None:
             try:
-                with open(f"/proc/{self.process.pid}/stat") as file:
-                    fields = file.read().rpartition(")")[2].split()
+                seconds = used(self.process.pid)
             except OSError:
                 return
             self.times.append(time.time())
-            self.seconds.append(sum(map(int, fields[11:15])) / os.sysconf("SC_CLK_TCK"))
+            self.seconds.append(max(seconds, self.seconds[-1]))  # a child that ends is counted a moment later
             time.sleep(0.05)
 
     def at(self, moment):
