@@ -66,6 +66,23 @@ fn lists(rt: &HostRuntime) -> Result<Vec<Vec<Event>>, AllocError> {
     two_cycles(rt)
 }
 
+// Both searches find the same of the first cycles, so many at the most.
+fn both(
+    rt: &HostRuntime,
+    threads: &(impl Threads + Sync),
+    known: &Known,
+    max: u32,
+) -> Result<(), Stop> {
+    let query = Query::new(Mode::Full, 4, max).ok().ok_or(Stop::Astray)?;
+    say(rt, "search", &alone(rt, known, &query)?);
+    say(
+        rt,
+        "search_parallel",
+        &together(rt, threads, known, &query)?,
+    );
+    Ok(())
+}
+
 /// Both searches find the same.
 pub(crate) fn parallel_as_search(
     rt: &HostRuntime,
@@ -73,14 +90,6 @@ pub(crate) fn parallel_as_search(
 ) -> Result<(), Stop> {
     let lists = lists(rt)?;
     let known = known_of(rt, lists.as_slice())?;
-    for max in [1, 2] {
-        let query = Query::new(Mode::Full, 4, max).ok().ok_or(Stop::Astray)?;
-        say(rt, "search", &alone(rt, &known, &query)?);
-        say(
-            rt,
-            "search_parallel",
-            &together(rt, threads, &known, &query)?,
-        );
-    }
-    Ok(())
+    both(rt, threads, &known, 1)?;
+    both(rt, threads, &known, 2)
 }

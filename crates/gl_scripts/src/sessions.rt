@@ -135,23 +135,55 @@ fn report_so_far(rt: &HostRuntime, collector: &Collector, query: &Query) {
     say(rt, "report", &counts);
 }
 
-/// A lane of one note: each event, and the end mark, waits for the one before it to be pulled.
-pub(crate) fn ring_of_one(rt: &HostRuntime) -> Result<(), Stop> {
-    let limits = limits_of(1, 1)?;
-    let (mut recorders, mut collector) = session(rt, 7, &limits)?;
-    let mut recorder = recorders.pop().ok_or(Stop::Astray)?;
+// Records two events and closes the recorder: each event, and the end mark, waits for the one before it to be pulled.
+fn record_by_one(
+    rt: &HostRuntime,
+    recorder: Recorder,
+    collector: &mut Collector,
+) -> Result<(), Stop>
+    requires known { 0 < collector.old.limits.threads }
+{
+    let mut recorder = recorder;
     record_all(
         rt,
         &mut recorder,
         &[event_of(Acq(0, 1)), event_of(Acq(1, 2))],
     );
     let mut recorder = handed_back(rt, recorder)?;
-    pull_some(rt, &mut collector, 0, 1)?;
+    pull_some(rt, collector, 0, 1)?;
     record(rt, &mut recorder, &event_of(Acq(1, 2)));
-    pull_some(rt, &mut collector, 0, 1)?;
+    pull_some(rt, collector, 0, 1)?;
     closed(rt, recorder)?;
-    pull_some(rt, &mut collector, 0, 2)?;
+    pull_some(rt, collector, 0, 2)
+}
+
+/// A lane of one note.
+pub(crate) fn ring_of_one(rt: &HostRuntime) -> Result<(), Stop> {
+    let limits = limits_of(1, 1)?;
+    let (mut recorders, mut collector) = session(rt, 7, &limits)?;
+    let recorder = recorders.pop().ok_or(Stop::Astray)?;
+    record_by_one(rt, recorder, &mut collector)?;
     say(rt, "log", &collector.log(ThreadId::new(0)));
+    Ok(())
+}
+
+// Pulls what the last two of three threads recorded, and prints what is reported then.
+fn pull_two(rt: &HostRuntime, collector: &mut Collector, query: &Query) -> Result<(), Stop>
+    requires known { 2 < collector.old.limits.threads }
+    ensures limits { collector.new.limits ≡ collector.old.limits }
+{
+    pull_some(rt, collector, 1, 2)?;
+    pull_some(rt, collector, 2, 2)?;
+    report_so_far(rt, collector, query);
+    Ok(())
+}
+
+// The same of the first one.
+fn pull_first(rt: &HostRuntime, collector: &mut Collector, query: &Query) -> Result<(), Stop>
+    requires known { 0 < collector.old.limits.threads }
+{
+    pull_some(rt, collector, 0, 3)?;
+    report_so_far(rt, collector, query);
     Ok(())
 }
 
@@ -161,26 +193,16 @@ pub(crate) fn report_so_far_drops(rt: &HostRuntime) -> Result<(), Stop> {
     let query = full()?;
     let limits = limits_of(3, 8)?;
     let (mut recorders, mut collector) = session(rt, 7, &limits)?;
-    record_all(
-        rt,
-        &mut recorders[1],
-        &[event_of(Acq(0, 1)), event_of(Acq(1, 2))],
-    );
-    record_all(
-        rt,
-        &mut recorders[2],
-        &[event_of(Acq(1, 3)), event_of(Acq(0, 4))],
-    );
-    pull_some(rt, &mut collector, 1, 2)?;
-    pull_some(rt, &mut collector, 2, 2)?;
-    report_so_far(rt, &collector, &query);
+    let first = [event_of(Acq(0, 1)), event_of(Acq(1, 2))];
+    let second = [event_of(Acq(1, 3)), event_of(Acq(0, 4))];
     let forks = [
         event_of(Fork(1, 5)),
         event_of(Join(1, 6)),
         event_of(Fork(2, 7)),
     ];
+    record_all(rt, &mut recorders[1], &first);
+    record_all(rt, &mut recorders[2], &second);
+    pull_two(rt, &mut collector, &query)?;
     record_all(rt, &mut recorders[0], &forks);
-    pull_some(rt, &mut collector, 0, 3)?;
-    report_so_far(rt, &collector, &query);
-    Ok(())
+    pull_first(rt, &mut collector, &query)
 }

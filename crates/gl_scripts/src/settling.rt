@@ -61,6 +61,17 @@ fn room_for_outlet(rt: &HostRuntime) -> Result<Vec<Outlet>, AllocError>
     Vec::with_capacity(rt.alloc(), 1)
 }
 
+// One outlet.
+fn only_outlet(rt: &HostRuntime, outlet: Outlet) -> Result<Vec<Outlet>, Stop>
+    ensures { IfOk result (λ outlets. outlets.items ≡ outlet ∷ []) }
+{
+    let mut outlets = room_for_outlet(rt)?;
+    match outlets.push(outlet) {
+        Ok(()) => Ok(outlets),
+        Err(_) => Err(Stop::Memory),
+    }
+}
+
 // The collector's run, and the other end of its only outlet.
 fn run_alone<W: Wait>(
     rt: &HostRuntime,
@@ -74,10 +85,7 @@ fn run_alone<W: Wait>(
         (λ run. run.0.fault ≡ None → map (λ s. s.feed) run.0.sent ≡ run.1.feed ∷ []) }
 {
     let (outlet, inlet) = roomy_feed(rt)?;
-    let mut outlets = room_for_outlet(rt)?;
-    let Ok(()) = outlets.push(outlet) else {
-        return Err(Stop::Memory);
-    };
+    let outlets = only_outlet(rt, outlet)?;
     Ok((collector.run(waits, outlets), inlet))
 }
 
@@ -144,6 +152,13 @@ pub(crate) fn settle_worker(
     }
 }
 
+// The table of the only worker, of which this was sent.
+fn only_table(rt: &HostRuntime, served: Served, sent: Vec<Sent>) -> Result<Option<Table>, Stop>
+    requires { map (λ s. s.feed) sent.items ≡ served.feed ∷ [] }
+{
+    settle_worker(rt, served, only_sent(sent)?)
+}
+
 // The lists of the session, and the table of its worker, which serves now. There is none where memory was
 // refused: to the collector, which has ended the feed all the same, or to the worker.
 fn settle_own<W: Wait>(
@@ -162,8 +177,10 @@ fn settle_own<W: Wait>(
     match gathered.settle(&mut receipts) {
         Ok((settled, sent)) => {
             say(rt, "settle", &settled.lists());
-            let table = settle_worker(rt, served, only_sent(sent)?)?;
-            Ok(table.map(|table| (settled, table)))
+            match only_table(rt, served, sent)? {
+                Some(table) => Ok(Some((settled, table))),
+                None => Ok(None),
+            }
         }
         Err(SettleFault::Memory) => {
             refused(rt, "settle", &served.cut());
@@ -209,6 +226,34 @@ fn report<T: Threads + Sync>(
     say(rt, "report", &counts);
 }
 
+// What a session of a thread that recorded these events gathered, with the worker's end, the thread's receipt and that of
+// another session.
+fn gathered_alone<W: Wait>(
+    rt: &HostRuntime,
+    waits: &W,
+    events: &[Event],
+) -> Result<(Gathered, Inlet, Receipt, Receipt), Stop>
+    ensures ours { IfOk result (λ ran. AreOurs ran.0 (ran.2 ∷ [])) }
+    ensures feed { IfOk result
+        (λ ran. ran.0.fault ≡ None → map (λ s. s.feed) ran.0.sent ≡ ran.1.feed ∷ []) }
+    ensures foreign { IfOk result (λ ran. ran.3.session ≡ ran.0.session → ⊥) }
+{
+    let limits = limits_of(1, 8)?;
+    let (own, collector) = recorded_alone(rt, 7, &limits, events)?;
+    let (foreign, _) = recorded_alone(rt, 8, &limits, &[])?;
+    let (gathered, inlet) = run_alone(rt, waits, collector)?;
+    Ok((gathered, inlet, own, foreign))
+}
+
+// What was gathered, settled with no receipt and with that of another session, comes back.
+fn settle_in_vain(rt: &HostRuntime, gathered: Gathered, foreign: Receipt) -> Result<Gathered, Stop>
+    requires foreign { foreign.session ≡ gathered.session → ⊥ }
+    ensures back { IfOk result (λ back. back ≡ gathered) }
+{
+    let gathered = settle_none(rt, gathered)?;
+    settle_foreign(rt, gathered, foreign)
+}
+
 // A session of a thread that recorded these events, settled with no receipt, with that of another session
 // and with its own. Whether it could be reported: else memory was refused to its collector or its worker.
 fn is_reported<W: Threads + Wait + Sync>(
@@ -217,17 +262,15 @@ fn is_reported<W: Threads + Wait + Sync>(
     events: &[Event],
 ) -> Result<bool, Stop> {
     let query = full()?;
-    let limits = limits_of(1, 8)?;
-    let (own, collector) = recorded_alone(rt, 7, &limits, events)?;
-    let (foreign, _) = recorded_alone(rt, 8, &limits, &[])?;
-    let (gathered, inlet) = run_alone(rt, threads, collector)?;
-    let gathered = settle_none(rt, gathered)?;
-    let gathered = settle_foreign(rt, gathered, foreign)?;
-    let Some((settled, table)) = settle_own(rt, threads, gathered, own, inlet)? else {
-        return Ok(false);
-    };
-    report(rt, threads, &settled, &table, &query);
-    Ok(true)
+    let (gathered, inlet, own, foreign) = gathered_alone(rt, threads, events)?;
+    let gathered = settle_in_vain(rt, gathered, foreign)?;
+    match settle_own(rt, threads, gathered, own, inlet)? {
+        Some((settled, table)) => {
+            report(rt, threads, &settled, &table, &query);
+            Ok(true)
+        }
+        None => Ok(false),
+    }
 }
 
 // The same, once more from the beginning where memory was refused to the collector or the worker.

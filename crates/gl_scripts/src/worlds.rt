@@ -137,17 +137,28 @@ fn ends() -> [Step; 8] {
     ]
 }
 
-/// Two worlds in which the threads take the same, by different steps, rings and shards.
-pub(crate) fn two_schedules(rt: &HostRuntime) -> Result<(), Stop> {
-    let query = full()?;
+// A world in which each thread makes all its steps at once.
+fn first_schedule(rt: &HostRuntime, query: &Query) -> Result<(), Stop> {
     let mut world = world_of(rt, 8, 1)?;
     go(rt, &mut world, &at_once());
-    report(rt, &world, &query);
+    report(rt, &world, query);
+    Ok(())
+}
+
+// One in which the threads and the collector take turns.
+fn second_schedule(rt: &HostRuntime, query: &Query) -> Result<(), Stop> {
     let mut world = world_of(rt, 1, 3)?;
     for _ in 0..5 {
         go(rt, &mut world, &in_turn());
     }
     go(rt, &mut world, &ends());
-    report(rt, &world, &query);
+    report(rt, &world, query);
     Ok(())
+}
+
+/// Two worlds in which the threads take the same, by different steps, rings and shards.
+pub(crate) fn two_schedules(rt: &HostRuntime) -> Result<(), Stop> {
+    let query = full()?;
+    first_schedule(rt, &query)?;
+    second_schedule(rt, &query)
 }
