@@ -172,7 +172,8 @@ uint32_t goodlock_lane_open(goodlock_session *session, goodlock_lane *lane, uint
 /* The number of the lock with this name: a new one for a new name, 0, 1, .. in the order in which they were
    told, and the same one for a name that was told before. The name is copied. Locks in a program often have no
    names: make one of what they are of, as "account 17". A lock of a number that was given no name is recorded
-   like any other, and has an empty name in reports. Numbers order the edges of a report: where two runs shall list
+   like any other, and has an empty name in reports. A text prints a name's bytes as they are, so one with a line end
+   in it looks like two lines there; JSON escapes it. Numbers order the edges of a report: where two runs shall list
    the same cycles in the same order, number locks in an order that doesn't change between runs, or ask for the report
    by mention.
    OK, NAMES, MEMORY, MISUSE. A step for each byte of the name. */
