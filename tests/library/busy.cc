@@ -277,6 +277,16 @@ static void filled()
     check(result.cycles == 1, "another text:\n" + result.text);
 }
 
+// Ends the session beside a thread, while the first pull of that is held for the asker.
+static goodlock::result finish_beside(goodlock::thread &thread)
+{
+    feigned = 1;
+    hold_the_next_pull();
+    const goodlock::result result = goodlock::finish();
+    thread.join();
+    return result;
+}
+
 // The collecting thread is held until a thread whose last turn was dropped has asked for the session's mutex, and lets
 // it go first: so it is there before finish() has it. A lane is left to pull, that of another thread.
 static void dropped()
@@ -296,10 +306,7 @@ static void dropped()
     asker = number.load();
     goodlock::detail::mine::finish();
     is_patient = true;
-    feigned = 1;
-    hold_the_next_pull();
-    const goodlock::result result = goodlock::finish();
-    thread.join();
+    const goodlock::result result = finish_beside(thread);
     check(result.code == GOODLOCK_OK && !result.is_settled, "a report without what was dropped isn't settled");
 }
 
@@ -344,11 +351,7 @@ static void full()
     wait_until([] { return number != 0; }, "the thread doesn't record");
     asker = number.load();
     goodlock::detail::mine::finish();
-    is_patient = true;
-    feigned = 1;
-    hold_the_next_pull();
-    const goodlock::result result = goodlock::finish();
-    thread.join();
+    const goodlock::result result = finish_beside(thread);
     check(result.code == GOODLOCK_OK && !result.is_settled, "a report beside a thread that hasn't ended isn't settled");
 }
 
