@@ -17,6 +17,7 @@ pub fn append<X: Copy>(xs: &mut Vec<X>, x: X) -> Result<(), Memory>
 
 /// Appends an element to each of two lists, or changes neither. Where both have room no memory is
 /// taken.
+#[inline(always)]
 pub fn append_both<X: Copy, Y: Copy>(
     xs: &mut Vec<X>,
     ys: &mut Vec<Y>,
