@@ -15,6 +15,7 @@ mod grouped;
 mod laws;
 mod lengths;
 mod listing;
+mod outlook;
 mod parallel;
 mod reaching;
 mod reports;

@@ -3,9 +3,9 @@ use Rattle.std.proofs.Common.{◌≡◌, ◌+◌, ◌<◌, ◌≤◌, ◌++◌, 
 use Rattle.std.specs.Prelude.{vec_len}
 use Rattle.std.specs.Vec.{with_items}
 use Rattle.std.specs.Io.KnownBytes.{Consumes, IsAtEnd, Keeps}
-use Rattle.std.proofs.Math.Seq.{take-add, take-append_seam}
+use Rattle.std.proofs.Math.Seq.{take-add}
 use Rattle.std.proofs.lemmas.Bool.{lt-ltb}
-use Rattle.std.proofs.lemmas.List.{length-take-le, take_all, with_items_is}
+use Rattle.std.proofs.lemmas.List.{length-take-le, with_items_is}
 use Rattle.gl_io.specs.Positions.{Position, LieBetween}
 use Rattle.gl_io.specs.declared.source.TheConstants.{CHUNK}
 use Rattle.gl_std.specs.bodies.Ahead.{HasReadOn}
@@ -15,14 +15,7 @@ use Rattle.gl_std.specs.declared.line_reader.pieces.Ending.TheVariants.{More, En
 use Rattle.gl_std.proofs.LineByLine.{broken_by, filled_buffer}
 use Rattle.gl_std.proofs.PiecesAhead.{read_on_broke, read_on_end, read_on_more}
 
--- a text that was made longer begins as it did
-pub longer_begins : (text zeros longer : List ℕ) (first : ℕ) → first ≡ length text → longer ≡ take (first + CHUNK) text ++ zeros → take first longer ≡ text
-longer_begins text zeros longer first is made =
-    ap (take first) made ∙ ap (λ n. take n (take (first + CHUNK) text ++ zeros)) is
-    ∙ ap (λ t. take (length text) (t ++ zeros)) (take_all (first + CHUNK) text (omega (arith, is)))
-    ∙ take-append_seam text zeros
-
--- one that was read into behind its first bytes is cut off behind what was read
+-- a buffer that was read into behind its first bytes, as far as it was filled
 pub cut_behind : (text lent read : List ℕ) (first count : ℕ) → lent ≡ text → take first read ≡ take first lent → take (first + count) read ≡ take first text ++ take count (drop first read)
 cut_behind text lent read first count lends front =
     take-add first count read ∙ ap (λ t. t ++ take count (drop first read)) (front ∙ ap (take first) lends)

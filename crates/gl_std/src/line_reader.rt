@@ -18,6 +18,7 @@ use gl_io::{CHUNK, Failed, Source};
 use std::alloc::{AllocError, Global};
 
 pub(crate) mod pieces;
+pub(crate) mod read_text;
 
 /// So many bytes of a line that isn't ended are kept: enough to tell that it is too long.
 pub(crate) const KEPT: usize = MAX_LINE + 2;

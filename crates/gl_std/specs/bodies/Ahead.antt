@@ -29,7 +29,7 @@ use Rattle.gl_std.specs.declared.trace.Trace.{Trace}
 
 -- what some reads gave together
 abbrev pub bytes_of : Piece → List ℕ
-bytes_of piece = piece.text.items
+bytes_of piece = piece.text
 
 -- and what they gave together
 abbrev pub text_of : List Piece → List ℕ

@@ -16,6 +16,7 @@ ghost use Rattle.gl_std.specs.declared.block.TheConstants.{LONGEST};
 ghost use Rattle.gl_std.specs.declared.line_reader.TheConstants.{KEPT};
 ghost use Rattle.gl_std.specs.declared.line_reader.pieces.Ending.TheVariants.{More};
 
+use super::read_text::ReadText;
 use super::{LineReader, end_line, keep};
 use crate::block::{Block, LONGEST};
 use crate::faults::ReadFault;
@@ -23,7 +24,7 @@ use crate::line::cut;
 use crate::line_ends::{LF, unended};
 use crate::lists::Lists;
 use crate::seed::Seed;
-use gl_io::{CHUNK, Failed, Source};
+use gl_io::{CHUNK, Source};
 use std::alloc::{AllocError, Global};
 
 /// What comes after some reads.
@@ -39,7 +40,7 @@ pub(crate) enum Ending {
 
 /// What some reads gave together, and what its lines say, once it was cut.
 pub(crate) struct Piece {
-    text: Vec<u8>,
+    text: ReadText,
     // None where its lines are judged from its text. Before it is cut it may be that of another piece.
     block: Option<Block>,
 }
@@ -64,7 +65,7 @@ impl Piece {
                 piece
             }
             None => Piece {
-                text: Vec::new(alloc),
+                text: ReadText::new(alloc),
                 block: None,
             },
         }
@@ -95,49 +96,6 @@ impl Piece {
         match &self.block {
             Some(block) => block.pays(),
             None => true,
-        }
-    }
-}
-
-// One read into a buffer, behind its first bytes, so many, which stay as they are.
-fn read_behind<R: Source>(input: &mut R, buffer: &mut [u8], first: usize) -> Result<usize, Failed>
-    requires not_failed { R.failed input.old ≡ false }
-    requires room { first < length buffer.old }
-    ensures front { take first buffer.new ≡ take first buffer.old }
-    ensures size { length buffer.new ≡ length buffer.old }
-    ensures fits { IfOk result (λ count. first + count ≤ length buffer.new) }
-    ensures bytes { IfOk result (λ count. Consumes (R.position input.old).left
-        (R.position input.new).left (take count (drop first buffer.new))) }
-    ensures end { IfOk result (λ count. count ≡ 0 → IsAtEnd (R.position input.new).left) }
-    ensures kept { OnErr result (Keeps (R.position input.old).left (R.position input.new).left) }
-    ensures counted { LieBetween 1 (R.position input.old) (R.position input.new) }
-    ensures failed { R.failed input.new ≡ is_err result }
-{
-    input.read(&mut buffer[first..])
-}
-
-// One read into the room behind the first bytes of a text, so many, which stay as they are. What it doesn't fill is
-// cut off.
-fn read_onto<R: Source>(input: &mut R, text: &mut Vec<u8>, first: usize) -> Ending
-    requires not_failed { R.failed input.old ≡ false }
-    requires room { vec_len text.old ≡ first + CHUNK }
-    ensures gave { (before later : LineReader) → HasTakenTurn before later
-        → HasReadOn (R.position input.old) before (take first text.old.items)
-        (R.position input.new) (R.failed input.new) later text.new.items result }
-    ensures short { vec_len text.new ≤ first + CHUNK }
-{
-    match read_behind(input, text.as_mut_slice(), first) {
-        Ok(0) => {
-            text.truncate(first);
-            Ending::End
-        }
-        Ok(count) => {
-            text.truncate(first + count);
-            Ending::More
-        }
-        Err(Failed) => {
-            text.truncate(first);
-            Ending::Broke
         }
     }
 }
@@ -235,10 +193,9 @@ impl LineReader {
         if self.turns == 0 {
             return Ok(Ending::Broke);
         }
-        let first = piece.text.len();
-        piece.text.resize(first + CHUNK, 0)?;
+        let ending = piece.text.read_more(input)?;
         self.turns -= 1;
-        Ok(read_onto(input, &mut piece.text, first))
+        Ok(ending)
     }
 
     /// Goes on from what the other reader has judged, where nothing is left that this one has read.
