@@ -1,6 +1,6 @@
 -- What is heard of a text that is read ahead.
-use Rattle.std.proofs.Common.{◌≡◌, ℕ, ◌*◌, ◌≤◌, Bool, true, false, List, [], ◌∷◌, ◌++◌, drop, length, take, Result, Ok, Err, refl, sym, ap, subst, ◌∙◌, arith}
-use Rattle.std.specs.Prelude.{vec_len, IfOk}
+use Rattle.std.proofs.Common.{◌≡◌, ℕ, ◌+◌, ◌*◌, ◌^◌, ◌<◌, ◌≤◌, Bool, true, false, List, [], ◌∷◌, ◌++◌, drop, length, take, Result, Ok, Err, refl, sym, ap, subst, ◌∙◌, append_assoc, length-append, arith}
+use Rattle.std.specs.Prelude.{vec_len, IfOk, OnOk}
 use Rattle.std.specs.declared.alloc.AllocError.{AllocError}
 use Rattle.gl_event.specs.Bounds.{Bounds}
 use Rattle.gl_event.specs.declared.events.Event.{Event}
@@ -11,7 +11,7 @@ use Rattle.gl_std.specs.LineReading.{HasGiven}
 use Rattle.gl_std.specs.Names.{NameLists}
 use Rattle.gl_std.specs.Pieces.{IsFaulty}
 use Rattle.gl_std.specs.Trace.{nothing}
-use Rattle.gl_std.specs.bodies.Ahead.{text_of, AreCut, AreRight, AreShort, CanJudge, CanReadAhead, FailsPiece, GivesOn, HasGoneOn, HasReadOn, HasReadPieces, HasReadTo, HearsEnding, HearsFault, HearsPieces, HearsRest, IsStillAhead, OnlyJudges, ReadsAhead, TakesPiece}
+use Rattle.gl_std.specs.bodies.Ahead.{text_of, AreCut, AreRight, AreShort, CanCutAndJudge, CanJudge, CanReadAhead, FailsPiece, GivesOn, HasAddedPieces, HasCut, HasGoneOn, HasReadOn, HasReadPieces, HasReadTo, HearsEnding, HearsFault, HearsPieces, HearsRest, IsStillAhead, OnlyJudges, ReadsAhead, StayRight, TakesPiece}
 use Rattle.gl_std.specs.bodies.Hearing.{Hears, HearsOn, IsReading}
 use Rattle.gl_std.specs.bodies.States.{left_of, IsFit, IsSound, Reaches, ReadsOn}
 use Rattle.gl_std.specs.declared.faults.ReadFault.{ReadFault}
@@ -29,6 +29,7 @@ use Rattle.gl_std.specs.declared.line_reader.pieces.Piece.{Piece}
 use Rattle.gl_std.specs.declared.trace.Trace.{Trace}
 use Rattle.gl_std.proofs.LineByLine.{alike_reaches, append_nil, left_none}
 use Rattle.gl_std.proofs.PieceByPiece.{faulty_more}
+use Rattle.gl_std.proofs.PiecesAhead.{taken_no_piece}
 
 -- ---- the last pieces
 
@@ -72,70 +73,97 @@ read_to More turns start now later failed old new text gave gives given = gives.
 read_to End turns start now later failed old new text gave gives given = gives turns start text given
 read_to Broke turns start now later failed old new text gave gives given = gives turns start text given
 
+-- what was judged, what is left of what was read before, and what the reads gave then
+regrouped : (seen front rest gave : List ℕ) → (seen ++ (front ++ rest)) ++ gave ≡ (seen ++ front) ++ (rest ++ gave)
+regrouped seen front rest gave = ap (λ t. t ++ gave) (sym (append_assoc seen front rest)) ∙ append_assoc (seen ++ front) rest gave
+
 -- the trace of all that was judged
-reached_ahead : (limits : Bounds) (turns : ℕ) (start now : Position) (f j j2 : LineReader) (lists lists2 : List (List Event)) (front : List ℕ) (ahead : ReadsAhead limits turns start now f j lists front) → TakesPiece j lists front j2 lists2 → (told : Trace) × Reaches j2.judge j2.unfinished.items (ahead.seen ++ front) told × (lists2 ≡ told.lists)
-reached_ahead limits turns start now f j j2 lists lists2 front ahead takes =
+reached_ahead : (limits : Bounds) (turns : ℕ) (start now : Position) (f j j2 : LineReader) (lists lists2 : List (List Event)) (front whole : List ℕ) (ahead : ReadsAhead limits turns start now f j lists whole) → TakesPiece j lists front j2 lists2 → (told : Trace) × Reaches j2.judge j2.unfinished.items (ahead.seen ++ front) told × (lists2 ≡ told.lists)
+reached_ahead limits turns start now f j j2 lists lists2 front whole ahead takes =
     let more = takes ahead.seen ahead.told ahead.reaches ahead.listed in
     (more.later, more.reaches, more.listed)
 
--- what was read ahead was judged, and more was read
-pub ahead_more : (limits : Bounds) (turns : ℕ) (start now later : Position) (failed : Bool) (f f2 j j2 : LineReader) (lists lists2 : List (List Event)) (front pieces : List ℕ) → ReadsAhead limits turns start now f j lists front → HasReadOn now f [] later failed f2 pieces More → TakesPiece j lists front j2 lists2 → j2.judge.limits ≡ j.judge.limits → ReadsAhead limits turns start later f2 j2 lists2 pieces
-ahead_more limits turns start now later failed f f2 j j2 lists lists2 front pieces ahead on takes same =
-    let at = reached_ahead limits turns start now f j j2 lists lists2 front ahead takes in
+-- what was read ahead first was judged, and more was read
+pub ahead_more : (limits : Bounds) (turns : ℕ) (start now later : Position) (failed : Bool) (f f2 j j2 : LineReader) (lists lists2 : List (List Event)) (front rest pieces : List ℕ) → ReadsAhead limits turns start now f j lists (front ++ rest) → HasReadOn now f [] later failed f2 pieces More → TakesPiece j lists front j2 lists2 → j2.judge.limits ≡ j.judge.limits → ReadsAhead limits turns start later f2 j2 lists2 (rest ++ pieces)
+ahead_more limits turns start now later failed f f2 j j2 lists lists2 front rest pieces ahead on takes same =
+    let at = reached_ahead limits turns start now f j j2 lists lists2 front (front ++ rest) ahead takes in
     record {
       seen = ahead.seen ++ front;
       told = at.0;
-      given = subst (λ t. HasGiven turns start later f2.turns ((ahead.seen ++ front) ++ t)) (sym on.text) (on.gives.1 turns start (ahead.seen ++ front) ahead.given);
+      given = subst (HasGiven turns start later f2.turns) (regrouped ahead.seen front rest on.gave ∙ ap (λ t. (ahead.seen ++ front) ++ (rest ++ t)) (sym on.text)) (on.gives.1 turns start (ahead.seen ++ (front ++ rest)) ahead.given);
       same = same ∙ ahead.same;
       reaches = at.1;
       listed = at.2;
     }
 
--- a line of what was read ahead is at fault
-pub failed_ahead : (limits : Bounds) (turns : ℕ) (start now : Position) (f j : LineReader) (lists : List (List Event)) (front gave : List ℕ) (r : Result (Unit {0}) ReadFault) (number : ℕ) (kind : StdKind) (ahead : ReadsAhead limits turns start now f j lists front) → FailsPiece j lists front r → r ≡ Err (Line number kind) → IsFaulty limits ((ahead.seen ++ front) ++ gave) number kind
-failed_ahead limits turns start now f j lists front gave r number kind ahead fails is =
+-- a line of it is at fault
+pub failed_ahead : (limits : Bounds) (turns : ℕ) (start now : Position) (f j : LineReader) (lists : List (List Event)) (front rest gave : List ℕ) (r : Result (Unit {0}) ReadFault) (number : ℕ) (kind : StdKind) (ahead : ReadsAhead limits turns start now f j lists (front ++ rest)) → FailsPiece j lists front r → r ≡ Err (Line number kind) → IsFaulty limits ((ahead.seen ++ (front ++ rest)) ++ gave) number kind
+failed_ahead limits turns start now f j lists front rest gave r number kind ahead fails is =
     let faulty = fails number kind is ahead.seen ahead.told ahead.reaches ahead.listed in
-    faulty_more limits (ahead.seen ++ front) gave number kind (subst (λ l. IsFaulty l (ahead.seen ++ front) number kind) ahead.same faulty)
-
--- the last pieces, after those that were read ahead
-pub heard_last : (limits : Bounds) (turns : ℕ) (start now later : Position) (failed whole : Bool) (f j j2 : LineReader) (lists lists2 : List (List Event)) (front gave pieces : List ℕ) (r : Result Heard AllocError) → ReadsAhead limits turns start now f j lists front → ((text : List ℕ) → HasGiven turns start now f.turns text → HasRead turns start later failed (text ++ gave) whole) → gave ≡ pieces
-    → TakesPiece j lists front j2 lists2 → j2.judge.limits ≡ j.judge.limits → IfOk r (HearsPieces j2 lists2 pieces whole) → IfOk r (HasHeard limits turns start later failed)
-heard_last limits turns start now later failed whole f j j2 lists lists2 front gave pieces r ahead reads is takes same hears =
-    let at = reached_ahead limits turns start now f j j2 lists lists2 front ahead takes in
-    heard_pieces limits turns start later failed whole j2 lists2 pieces (ahead.seen ++ front) at.0 r hears
-    (subst (λ t. HasRead turns start later failed ((ahead.seen ++ front) ++ t) whole) is (reads (ahead.seen ++ front) ahead.given))
-    (same ∙ ahead.same) at.1 at.2
+    subst (λ t. IsFaulty limits t number kind) (sym (regrouped ahead.seen front rest gave))
+    (faulty_more limits (ahead.seen ++ front) (rest ++ gave) number kind (subst (λ l. IsFaulty l (ahead.seen ++ front) number kind) ahead.same faulty))
 
 -- ---- nothing is counted beyond what numbers hold
 
-pub can_take : (f j : LineReader) (pieces : List Piece) → CanReadAhead f j (text_of pieces) → AreShort pieces → AreCut pieces → CanJudge j pieces
-can_take f j pieces can short cut = record { sound = can.sound; few = can.few; countable = omega (arith, can.countable); short = short; cut = cut }
+pub can_take : (f j : LineReader) (pieces : List Piece) (rest : List ℕ) → CanReadAhead f j (text_of pieces ++ rest) → AreShort pieces → AreCut pieces → CanJudge j pieces
+can_take f j pieces rest can short cut = record { sound = can.sound; few = can.few; countable = omega (arith, length-append (text_of pieces) rest, can.countable); short = short; cut = cut }
 
-pub can_finish : (now later : Position) (failed : Bool) (f f2 j j2 : LineReader) (front : List ℕ) (pieces : List Piece) (ending : Ending) → CanReadAhead f j front → OnlyJudges j j2 (length front) → HasReadPieces now f later failed f2 pieces ending → CanJudge j2 pieces
-can_finish now later failed f f2 j j2 front pieces ending can judges read = record {
-  sound = judges.sound;
-  few = judges.few;
-  countable = omega (arith, can.countable, judges.lines, ap length read.reads.text, read.reads.within);
+-- pieces that were read first
+pub can_finish : (now later : Position) (failed : Bool) (f f2 j : LineReader) (pieces : List Piece) (ending : Ending) → CanReadAhead f j [] → HasReadPieces now f later failed f2 pieces ending → AreCut pieces → CanJudge j pieces
+can_finish now later failed f f2 j pieces ending can read cut = record {
+  sound = can.sound;
+  few = can.few;
+  countable = omega (arith, can.countable, ap length read.reads.text, read.reads.within);
   short = read.short;
-  cut = read.cut;
+  cut = cut;
 }
 
-pub can_more : (now later : Position) (failed : Bool) (f f2 j j2 : LineReader) (front pieces : List ℕ) → CanReadAhead f j front → OnlyJudges j j2 (length front) → vec_len f2.buffer ≡ vec_len f.buffer → HasReadOn now f [] later failed f2 pieces More → CanReadAhead f2 j2 pieces
-can_more now later failed f f2 j j2 front pieces can judges same on = record {
+pub can_begin : (now later : Position) (failed : Bool) (f f2 j : LineReader) (pieces : List ℕ) → CanReadAhead f j [] → vec_len f2.buffer ≡ vec_len f.buffer → HasReadOn now f [] later failed f2 pieces More → CanReadAhead f2 j pieces
+can_begin now later failed f f2 j pieces can same on = record {
+  sound = can.sound;
+  few = can.few;
+  room = same ∙ can.room;
+  countable = omega (arith, can.countable, ap length on.text, on.within);
+}
+
+-- pieces that were cut while those before them were judged, and others behind them that were read
+pub can_leave : (f j j2 : LineReader) (front : List ℕ) (rest : List Piece) → CanReadAhead f j (front ++ text_of rest) → OnlyJudges j j2 (length front) → AreShort rest → AreCut rest → CanJudge j2 rest
+can_leave f j j2 front rest can judges short cut = record {
+  sound = judges.sound;
+  few = judges.few;
+  countable = omega (arith, can.countable, judges.lines, length-append front (text_of rest));
+  short = short;
+  cut = cut;
+}
+
+pub countable_both : (now later : Position) (failed : Bool) (f f2 j j2 : LineReader) (front rest pieces : List ℕ) (ending : Ending) → CanReadAhead f j (front ++ rest) → OnlyJudges j j2 (length front) → HasReadOn now f [] later failed f2 pieces ending → j2.judge.line + length (rest ++ pieces) + 1 < 2 ^ 64
+countable_both now later failed f f2 j j2 front rest pieces ending can judges on =
+    omega (arith, can.countable, judges.lines, length-append front rest, length-append rest pieces, ap length on.text, on.within)
+
+pub can_more : (now later : Position) (failed : Bool) (f f2 j j2 : LineReader) (front rest pieces : List ℕ) → CanReadAhead f j (front ++ rest) → OnlyJudges j j2 (length front) → vec_len f2.buffer ≡ vec_len f.buffer → HasReadOn now f [] later failed f2 pieces More → CanReadAhead f2 j2 (rest ++ pieces)
+can_more now later failed f f2 j j2 front rest pieces can judges same on = record {
   sound = judges.sound;
   few = judges.few;
   room = same ∙ can.room;
-  countable = omega (arith, can.countable, judges.lines, ap length on.text, on.within);
+  countable = omega (arith, can.countable, judges.lines, length-append front rest, length-append rest pieces, ap length on.text, on.within);
 }
 
--- ---- pieces that were read into none
+-- the last pieces, of which some were judged while the others were cut
+pub can_last : (j j2 : LineReader) (front : List ℕ) (old new : List Piece) → CanCutAndJudge j front old → OnlyJudges j j2 (length front) → HasCut old new → CanJudge j2 new
+can_last j j2 front old new can judges cut = record {
+  sound = judges.sound;
+  few = judges.few;
+  countable = omega (arith, can.countable, judges.lines, length-append front (text_of old), ap length cut.same);
+  short = cut.short;
+  cut = cut.cut;
+}
 
-pub read_cut : (now later : Position) (failed : Bool) (old new : LineReader) (none pieces cut : List Piece) (ending : Ending) → none ≡ [] → text_of cut ≡ text_of pieces → HasReadOn now old (text_of none) later failed new (text_of pieces) ending → HasReadOn now old [] later failed new (text_of cut) ending
-read_cut now later failed old new none pieces cut ending empty same on = record {
-  gave = on.gave;
-  text = same ∙ on.text ∙ ap (λ ps. text_of ps ++ on.gave) empty;
-  gives = on.gives;
-  within = on.within;
+pub judged_on : (f j j2 : LineReader) (front rest : List ℕ) → CanReadAhead f j (front ++ rest) → OnlyJudges j j2 (length front) → CanReadAhead f j2 rest
+judged_on f j j2 front rest can judges = record {
+  sound = judges.sound;
+  few = judges.few;
+  room = can.room;
+  countable = omega (arith, can.countable, judges.lines, length-append front rest);
 }
 
 -- ---- no pieces
@@ -148,6 +176,30 @@ no_piece_cut pieces none = subst AreCut (sym none) (λ k d within. absurd (omega
 
 pub no_piece_right : (names : NameLists) (pieces : List Piece) → pieces ≡ [] → AreRight names pieces
 no_piece_right names pieces none = subst (AreRight names) (sym none) (λ k d within. absurd (omega (arith, within)))
+
+-- ---- pieces that were read into none
+
+pub read_cut : (now later : Position) (failed : Bool) (old new : LineReader) (none pieces cut : List Piece) (ending : Ending) → none ≡ [] → text_of cut ≡ text_of pieces → HasReadOn now old (text_of none) later failed new (text_of pieces) ending → HasReadOn now old [] later failed new (text_of cut) ending
+read_cut now later failed old new none pieces cut ending empty same on = record {
+  gave = on.gave;
+  text = same ∙ on.text ∙ ap (λ ps. text_of ps ++ on.gave) empty;
+  gives = on.gives;
+  within = on.within;
+}
+
+pub added_read : (now later : Position) (failed : Bool) (old new : LineReader) (none pieces : List Piece) (r : Result Ending AllocError) → none ≡ [] → IfOk r (HasAddedPieces now old none later failed new pieces) → IfOk r (HasReadPieces now old later failed new pieces)
+added_read now later failed old new none pieces (Err e) empty added = tt
+added_read now later failed old new none pieces (Ok ending) empty added = record {
+  reads = read_cut now later failed old new none pieces pieces ending empty refl added.reads;
+  same_size = added.only.same_size;
+  short = added.short;
+  fewer = added.fewer;
+}
+
+pub stay_right : (names : NameLists) (spare none spare2 pieces : List Piece) (taken : Result (Unit {0}) ReadFault) (read : Result Ending AllocError) → none ≡ [] → OnOk taken (AreRight names spare) → OnOk read (StayRight spare none spare2 pieces) → OnOk taken (OnOk read (AreRight names pieces))
+stay_right names spare none spare2 pieces (Err f) read empty right stay = tt
+stay_right names spare none spare2 pieces (Ok done) (Err e) empty right stay = tt
+stay_right names spare none spare2 pieces (Ok done) (Ok ending) empty right stay = (stay names right (no_piece_right names none empty)).1
 
 -- ---- a fault by its parts
 
@@ -173,7 +225,7 @@ gone_fit f j j2 new pieces can judges gone = record {
 -- it reads on where the two were
 pub gone_on : (limits : Bounds) (turns : ℕ) (start now : Position) (f j j2 new : LineReader) (lists lists2 : List (List Event)) (pieces : List ℕ) → ReadsAhead limits turns start now f j lists pieces → TakesPiece j lists pieces j2 lists2 → j2.judge.limits ≡ j.judge.limits → HasGoneOn f j2 new → IsReading limits turns start now new lists2
 gone_on limits turns start now f j j2 new lists lists2 pieces ahead takes same gone =
-    let at = reached_ahead limits turns start now f j j2 lists lists2 pieces ahead takes in
+    let at = reached_ahead limits turns start now f j j2 lists lists2 pieces pieces ahead takes in
     let text = ahead.seen ++ pieces in
     record {
       text = text;
@@ -221,19 +273,44 @@ ending_broke now failed f j lists pieces ending (Ok h) hears is = λ limits turn
     hears limits turns start now failed seen told (subst (λ e. HasReadTo e turns start now failed f.turns (seen ++ pieces)) is read) same reaches listed
 
 -- what is heard after the last round is what is heard of the source
-pub rest_last : (now later mid last : Position) (failed failed2 : Bool) (f0 j0 : LineReader) (lists0 : List (List Event)) (pieces0 : List ℕ) (f f2 j j2 : LineReader) (lists lists2 : List (List Event)) (front pieces : List ℕ) (ending : Ending) (r : Result Heard AllocError) → IsStillAhead now f0 j0 lists0 pieces0 later f j lists front → HasReadOn later f [] mid failed f2 pieces ending → TakesPiece j lists front j2 lists2 → j2.judge.limits ≡ j.judge.limits → IfOk r (HearsEnding ending mid failed f2 j2 lists2 pieces last failed2) → IfOk r (HearsRest now f0 j0 lists0 pieces0 last failed2)
-rest_last now later mid last failed failed2 f0 j0 lists0 pieces0 f f2 j j2 lists lists2 front pieces ending (Err e) still on takes same hears = tt
-rest_last now later mid last failed failed2 f0 j0 lists0 pieces0 f f2 j j2 lists lists2 front pieces ending (Ok h) still on takes same hears = λ limits turns start was.
+pub rest_last : (now later mid last : Position) (failed failed2 : Bool) (f0 j0 : LineReader) (lists0 : List (List Event)) (pieces0 : List ℕ) (f f2 j j2 : LineReader) (lists lists2 : List (List Event)) (front rest pieces : List ℕ) (ending : Ending) (r : Result Heard AllocError) → IsStillAhead now f0 j0 lists0 pieces0 later f j lists (front ++ rest) → HasReadOn later f [] mid failed f2 pieces ending → TakesPiece j lists front j2 lists2 → j2.judge.limits ≡ j.judge.limits → IfOk r (HearsEnding ending mid failed f2 j2 lists2 (rest ++ pieces) last failed2) → IfOk r (HearsRest now f0 j0 lists0 pieces0 last failed2)
+rest_last now later mid last failed failed2 f0 j0 lists0 pieces0 f f2 j j2 lists lists2 front rest pieces ending (Err e) still on takes same hears = tt
+rest_last now later mid last failed failed2 f0 j0 lists0 pieces0 f f2 j j2 lists lists2 front rest pieces ending (Ok h) still on takes same hears = λ limits turns start was.
     let ahead = still limits turns start was in
-    let at = reached_ahead limits turns start later f j j2 lists lists2 front ahead takes in
+    let at = reached_ahead limits turns start later f j j2 lists lists2 front (front ++ rest) ahead takes in
     hears limits turns start (ahead.seen ++ front) at.0
-    (subst (λ t. HasReadTo ending turns start mid failed f2.turns ((ahead.seen ++ front) ++ t)) (sym on.text) (read_to ending turns start later mid failed f f2 (ahead.seen ++ front) on.gave on.gives ahead.given))
+    (subst (HasReadTo ending turns start mid failed f2.turns) (regrouped ahead.seen front rest on.gave ∙ ap (λ t. (ahead.seen ++ front) ++ (rest ++ t)) (sym on.text)) (read_to ending turns start later mid failed f f2 (ahead.seen ++ (front ++ rest)) on.gave on.gives ahead.given))
     (same ∙ ahead.same) at.1 at.2
 
+-- and what is heard after the first piece
+pub begin_rest : (now later last : Position) (failed failed2 : Bool) (f f2 j : LineReader) (lists : List (List Event)) (pieces : List ℕ) (r : Result Heard AllocError) → HasReadOn now f [] later failed f2 pieces More → IfOk r (HearsRest later f2 j lists pieces last failed2) → IfOk r (HearsRest now f j lists [] last failed2)
+begin_rest now later last failed failed2 f f2 j lists pieces (Err e) on hears = tt
+begin_rest now later last failed failed2 f f2 j lists pieces (Ok h) on hears = λ limits turns start was.
+    hears limits turns start (ahead_more limits turns start now later failed f f2 j j lists lists [] [] pieces was on (taken_no_piece j lists) refl)
+
 -- and so it is where a line of what was read ahead is at fault
-pub rest_faulty : (now later mid last : Position) (failed failed2 : Bool) (f0 j0 : LineReader) (lists0 : List (List Event)) (pieces0 : List ℕ) (f f2 j : LineReader) (lists : List (List Event)) (front pieces : List ℕ) (ending : Ending) (r : Result (Unit {0}) ReadFault) (number number2 : ℕ) (kind kind2 : StdKind) (h : Heard) → IsStillAhead now f0 j0 lists0 pieces0 later f j lists front → HasReadOn later f [] mid failed f2 pieces ending → FailsPiece j lists front r → r ≡ Err (Line number kind) → number2 ≡ number → kind2 ≡ kind → HearsFault ending mid failed f2.turns number2 kind2 last failed2 h → HearsRest now f0 j0 lists0 pieces0 last failed2 h
-rest_faulty now later mid last failed failed2 f0 j0 lists0 pieces0 f f2 j lists front pieces ending r number number2 kind kind2 h still on fails is a b hears = λ limits turns start was.
+pub rest_faulty : (now later mid last : Position) (failed failed2 : Bool) (f0 j0 : LineReader) (lists0 : List (List Event)) (pieces0 : List ℕ) (f f2 j : LineReader) (lists : List (List Event)) (front rest pieces : List ℕ) (ending : Ending) (r : Result (Unit {0}) ReadFault) (number number2 : ℕ) (kind kind2 : StdKind) (h : Heard) → IsStillAhead now f0 j0 lists0 pieces0 later f j lists (front ++ rest) → HasReadOn later f [] mid failed f2 pieces ending → FailsPiece j lists front r → r ≡ Err (Line number kind) → number2 ≡ number → kind2 ≡ kind → HearsFault ending mid failed f2.turns number2 kind2 last failed2 h → HearsRest now f0 j0 lists0 pieces0 last failed2 h
+rest_faulty now later mid last failed failed2 f0 j0 lists0 pieces0 f f2 j lists front rest pieces ending r number number2 kind kind2 h still on fails is a b hears = λ limits turns start was.
     let ahead = still limits turns start was in
-    let text = (ahead.seen ++ front) ++ on.gave in
-    hears limits turns start text (read_to ending turns start later mid failed f f2 (ahead.seen ++ front) on.gave on.gives ahead.given)
-    (faulty_parts limits text number number2 kind kind2 a b (failed_ahead limits turns start later f j lists front on.gave r number kind ahead fails is))
+    let text = (ahead.seen ++ (front ++ rest)) ++ on.gave in
+    hears limits turns start text (read_to ending turns start later mid failed f f2 (ahead.seen ++ (front ++ rest)) on.gave on.gives ahead.given)
+    (faulty_parts limits text number number2 kind kind2 a b (failed_ahead limits turns start later f j lists front rest on.gave r number kind ahead fails is))
+
+-- some of the last pieces were judged, and this was heard of the others
+pub ending_both : (now later : Position) (failed failed2 : Bool) (f j j2 : LineReader) (lists lists2 : List (List Event)) (front rest : List ℕ) (ending : Ending) (r : Result Heard AllocError) → TakesPiece j lists front j2 lists2 → j2.judge.limits ≡ j.judge.limits → IfOk r (HearsEnding ending now failed f j2 lists2 rest later failed2) → IfOk r (HearsEnding ending now failed f j lists (front ++ rest) later failed2)
+ending_both now later failed failed2 f j j2 lists lists2 front rest ending (Err e) takes limits hears = tt
+ending_both now later failed failed2 f j j2 lists lists2 front rest ending (Ok h) takes limits hears = λ bounds turns start seen told read same reaches listed.
+    let more = takes seen told reaches listed in
+    hears bounds turns start (seen ++ front) more.later
+    (subst (HasReadTo ending turns start now failed f.turns) (sym (append_assoc seen front rest)) read)
+    (limits ∙ same) more.reaches more.listed
+
+-- or one of their lines is at fault
+pub ending_faulty : (now later : Position) (failed failed2 : Bool) (f j : LineReader) (lists : List (List Event)) (front rest : List ℕ) (ending : Ending) (r : Result (Unit {0}) ReadFault) (number number2 : ℕ) (kind kind2 : StdKind) (h : Heard) → FailsPiece j lists front r → r ≡ Err (Line number kind) → number2 ≡ number → kind2 ≡ kind → HearsFault ending now failed f.turns number2 kind2 later failed2 h → HearsEnding ending now failed f j lists (front ++ rest) later failed2 h
+ending_faulty now later failed failed2 f j lists front rest ending r number number2 kind kind2 h fails is a b hears = λ limits turns start seen told read same reaches listed.
+    let text = seen ++ (front ++ rest) in
+    let faulty = fails number kind is seen told reaches listed in
+    hears limits turns start text read
+    (faulty_parts limits text number number2 kind kind2 a b
+    (subst (λ t. IsFaulty limits t number kind) (append_assoc seen front rest)
+    (faulty_more limits (seen ++ front) rest number kind (subst (λ l. IsFaulty l (seen ++ front) number kind) same faulty))))

@@ -16,7 +16,7 @@ use Rattle.gl_std.specs.LineReading.{TELLING, HasGiven}
 use Rattle.gl_std.specs.Lines.{LF, CR, begins_with, ended_lines, lines}
 use Rattle.gl_std.specs.Pieces.{IsFaulty, IsTold}
 use Rattle.gl_std.specs.Trace.{and_then, read_from, trace_of}
-use Rattle.gl_std.specs.bodies.Ahead.{bytes_of, text_of, AreRight, FailsPiece, GivesOn, HasReadOn, IsRightPiece, IsShort, JudgesText, OnlyJudges, TakesPiece}
+use Rattle.gl_std.specs.bodies.Ahead.{bytes_of, text_of, AreRight, FailsPiece, GivesOn, HasCut, HasCutPiece, HasReadOn, IsCut, IsRightPiece, IsShort, JudgesText, OnlyJudges, TakesPiece}
 use Rattle.gl_std.specs.bodies.Blocks.{after_shapes, between, FailsShapes, GoOn, IsRight, TakesShapes}
 use Rattle.gl_std.specs.bodies.Taking.{HasEndedLine}
 use Rattle.gl_std.specs.bodies.Telling.{with_judged}
@@ -394,6 +394,20 @@ text_alike (p ∷ old) (q ∷ new) size same =
     let first = same 0 p (omega arith) in
     let rest = text_alike old new (omega (arith, size)) (λ k d within. same (suc k) d (omega (arith, within))) in
     (λ i. first i ++ rest i)
+
+-- ---- pieces that were cut, one and others
+
+of_both : (P : Piece → Type 0) (p : Piece) (ps : List Piece) → P p → All P ps → All P (p ∷ ps)
+of_both P p ps is are zero d within = is
+of_both P p ps is are (suc k) d within = are k d (omega (arith, within))
+
+pub cut_both : (p q : Piece) (ps qs : List Piece) → HasCutPiece p q → HasCut ps qs → HasCut (p ∷ ps) (q ∷ qs)
+cut_both p q ps qs one rest = record {
+  cut = of_both IsCut q qs one.cut rest.cut;
+  short = of_both IsShort q qs one.short rest.short;
+  same = λ i. one.same i ++ rest.same i;
+  right = λ names are. of_both (IsRightPiece names) q qs (one.right names (are 0 p (omega arith))) (rest.right names (λ k d low. are (suc k) d (omega (arith, low))));
+}
 
 -- ---- what blocks know of names
 

@@ -61,6 +61,20 @@ abbrev pub StayRight : List Piece → List Piece → List Piece → List Piece �
 StayRight spare pieces spare_later pieces_later = (names : NameLists) → AreRight names spare
     → AreRight names pieces → (AreRight names spare_later) × (AreRight names pieces_later)
 
+-- a piece was cut: it gives the same text, and what is known of names stays right
+pub record HasCutPiece (old new : Piece) : Type 0 where
+  pub cut : IsCut new
+  pub short : IsShort new
+  pub same : bytes_of new ≡ bytes_of old
+  pub right : (names : NameLists) → IsRightPiece names old → IsRightPiece names new
+
+-- pieces were cut: they give the same text, and what is known of names stays right
+pub record HasCut (old new : List Piece) : Type 0 where
+  pub cut : AreCut new
+  pub short : AreShort new
+  pub same : text_of new ≡ text_of old
+  pub right : (names : NameLists) → AreRight names old → AreRight names new
+
 -- ---- reads
 
 -- what the reads gave together with whatever text was read before them
@@ -115,16 +129,15 @@ abbrev pub HasAddedPieces : Position → LineReader → List Piece → Position 
 HasAddedPieces now old before later failed new after ending =
     HasReadAhead now old (text_of before) later failed new (text_of after) (AreShort after) ending
 
--- the next pieces were read and cut
+-- the next pieces were read
 pub record HasReadPieces (now : Position) (old : LineReader) (later : Position) (failed : Bool)
     (new : LineReader) (pieces : List Piece) (ending : Ending) : Type 0 where
   pub reads : HasReadOn now old [] later failed new (text_of pieces) ending
   pub same_size : vec_len new.buffer ≡ vec_len old.buffer
-  pub cut : AreCut pieces
   pub short : AreShort pieces
   pub fewer : ending ≡ More → new.turns < old.turns
 
--- pieces can be read and cut, by so many threads: none is there yet
+-- pieces can be read for so many threads to cut: none is there yet
 pub record CanReadPieces (cutters : ℕ) (f : LineReader) (failed : Bool) (pieces : List Piece)
     : Type 0 where
   pub threads : 0 < cutters
@@ -225,6 +238,12 @@ pub record CanJudge (f : LineReader) (pieces : List Piece) : Type 0 where
   pub countable : f.judge.line + length (text_of pieces) + 1 < 2 ^ 64
   pub short : AreShort pieces
   pub cut : AreCut pieces
+
+-- others can be cut, and judged behind this text
+pub record CanCutAndJudge (f : LineReader) (front : List ℕ) (pieces : List Piece) : Type 0 where
+  pub countable : f.judge.line + length (front ++ text_of pieces) + 1 < 2 ^ 64
+  pub short : AreShort pieces
+  pub right : AreRight f.judge.names pieces
 
 -- and reading can go on: nothing will be
 pub record CanReadAhead (f j : LineReader) (pieces : List ℕ) : Type 0 where

@@ -1,18 +1,19 @@
 //! Reading the text that a source gives in several threads.
 //!
-//! One thread judges the pieces that were read before, one after another, while the next ones are read, and cut into
-//! lines by the others. These number the names in each piece, and go on with the names of a piece that was judged: so
-//! the thread that judges looks each of them up once, and sees numbers else.
+//! One thread judges the pieces that were cut before, one after another, and then reads more in their memory, while
+//! the pieces between are cut into lines by the others. These number the names in each piece, and go on with the names
+//! of a piece that was judged: so the thread that judges looks each of them up once, and sees numbers else.
 //!
 //! The first piece is read before any thread is started, so that a text that ends in it costs what it costs one
 //! thread. Where a piece has many new names, cutting it ahead doesn't pay: its lines are judged from its text, and where
 //! that is so of all pieces of a round, this thread goes on alone.
-ghost use Rattle.std.specs.Prelude.{◌≡◌, ◌^◌, ◌<◌, ◌≤◌, [], true, false, vec_len, IfOk, OnOk};
+ghost use Rattle.std.specs.Prelude.{◌≡◌, ◌^◌, ◌<◌, ◌≤◌, [], ◌++◌, true, false, vec_len, IfOk, OnOk};
+ghost use denote.Param.Send.{IsSync};
 ghost use Rattle.gl_io.specs.declared.source.TheConstants.{CHUNK};
 ghost use Rattle.gl_std.specs.Heard.{HasHeard};
 ghost use Rattle.gl_std.specs.Names.{NameLists};
 ghost use Rattle.gl_std.specs.Trace.{IsTraceOver};
-ghost use Rattle.gl_std.specs.bodies.Ahead.{bytes_of, text_of, AreCut, AreRight, AreShort, CanJudge, CanReadAhead, CanReadPieces, HasReadPieces, HearsEnding, HearsFault, HearsFaulty, HearsPieces, HearsRest, IsCut, IsRightPiece, IsShort, JudgesText, StayRight};
+ghost use Rattle.gl_std.specs.bodies.Ahead.{text_of, AreCut, AreRight, AreShort, CanCutAndJudge, CanJudge, CanReadAhead, CanReadPieces, HasCut, HasCutPiece, HasReadPieces, HearsEnding, HearsFault, HearsFaulty, HearsPieces, HearsRest, IsShort, JudgesText};
 ghost use Rattle.gl_std.specs.declared.line_reader.pieces.Ending.TheVariants.{More};
 
 use super::{Heard, finish, read_on, read_source};
@@ -58,17 +59,25 @@ impl Cutters {
             cuts: true,
         }
     }
+
+    // The same, which cut nothing where that doesn't pay.
+    fn where_it_pays(self, pays: bool) -> Cutters
+        ensures { result.threads ≡ self.threads }
+    {
+        Cutters {
+            alloc: self.alloc,
+            seed: self.seed,
+            threads: self.threads,
+            cuts: pays,
+        }
+    }
 }
 
 // Cuts pieces into lines.
 fn cut_all<R: Threads + Sync>(rt: &R, cutters: Cutters, pieces: &mut [Piece])
     requires threads { 0 < cutters.threads }
     requires short { AreShort pieces.old }
-    ensures cut { AreCut pieces.new }
-    ensures short { AreShort pieces.new }
-    ensures same { text_of pieces.new ≡ text_of pieces.old }
-    ensures right { (names : NameLists) → AreRight names pieces.old
-        → AreRight names pieces.new }
+    ensures { HasCut pieces.old pieces.new }
 {
     thread::for_each_mut(
         rt,
@@ -76,11 +85,7 @@ fn cut_all<R: Threads + Sync>(rt: &R, cutters: Cutters, pieces: &mut [Piece])
         cutters.threads,
         &|_place: usize, piece: &mut Piece|
             requires { IsShort piece.now }
-            ensures cut { IsCut piece.new }
-            ensures short { IsShort piece.new }
-            ensures same { bytes_of piece.new ≡ bytes_of piece.old }
-            ensures right { (names : NameLists) → IsRightPiece names piece.old
-                → IsRightPiece names piece.new }
+            ensures { HasCutPiece piece.old piece.new }
         {
             piece.cut(cutters.alloc, cutters.seed, cutters.cuts);
         },
@@ -91,46 +96,40 @@ fn cut_all<R: Threads + Sync>(rt: &R, cutters: Cutters, pieces: &mut [Piece])
 fn cut_pieces<R: Threads + Sync>(rt: &R, cutters: Cutters, pieces: &mut Vec<Piece>)
     requires threads { 0 < cutters.threads }
     requires short { AreShort pieces.old.items }
-    ensures cut { AreCut pieces.new.items }
-    ensures short { AreShort pieces.new.items }
-    ensures same { text_of pieces.new.items ≡ text_of pieces.old.items }
-    ensures right { (names : NameLists) → AreRight names pieces.old.items
-        → AreRight names pieces.new.items }
+    ensures { HasCut pieces.old.items pieces.new.items }
 {
     cut_all(rt, cutters, pieces.as_mut_slice());
 }
 
-// Reads the pieces of a round, and cuts them into lines.
-fn read_and_cut<T: Threads + Sync, R: Source>(
+// Reads the first piece. Its lines are judged from its text, where it isn't cut later.
+fn read_first<T: Threads + Sync, R: Source>(
     rt: &T,
     cutters: Cutters,
     reader: &mut LineReader,
     input: &mut R,
-    spare: &mut Vec<Piece>,
     pieces: &mut Vec<Piece>,
 ) -> Result<Ending, AllocError>
     requires { CanReadPieces cutters.threads reader.old (R.failed input.old) pieces.old.items }
     ensures read { IfOk result
         (HasReadPieces (R.position input.old) reader.old (R.position input.new)
         (R.failed input.new) reader.new pieces.new.items) }
-    ensures right { OnOk result
-        (StayRight spare.old.items pieces.old.items spare.new.items pieces.new.items) }
+    ensures cut { OnOk result (AreCut pieces.new.items) }
+    ensures right { OnOk result ((names : NameLists) → AreRight names pieces.new.items) }
 {
-    let ending = reader.read_ahead(cutters.alloc, input, spare, pieces, cutters.threads)?;
-    cut_pieces(rt, cutters, pieces);
+    let mut spare = Vec::new(cutters.alloc);
+    let ending = reader.read_ahead(cutters.alloc, input, &mut spare, pieces, 1)?;
+    cut_pieces(rt, cutters.where_it_pays(false), pieces);
     Ok(ending)
 }
 
-// Judges the pieces that were read ahead in a thread of its own, while the next ones are read and cut.
-fn take_beside_reading<T: Threads + Sync, R: Source>(
-    rt: &T,
+// Judges the pieces that were cut before, and then reads the next ones in their memory.
+fn take_and_read<R: Source>(
     cutters: Cutters,
     judge: &mut LineReader,
     lists: &mut Lists,
     ahead: &mut Vec<Piece>,
     reader: &mut LineReader,
     input: &mut R,
-    spare: &mut Vec<Piece>,
     pieces: &mut Vec<Piece>,
 ) -> (Result<(), ReadFault>, Result<Ending, AllocError>)
     requires can { CanJudge judge.old ahead.old.items }
@@ -139,38 +138,116 @@ fn take_beside_reading<T: Threads + Sync, R: Source>(
         reader.old (R.failed input.old) pieces.old.items }
     ensures taken { JudgesText judge.old lists.old (text_of ahead.old.items)
         judge.new lists.new result.0 }
-    ensures right { OnOk result.0 (AreRight judge.new.judge.names ahead.new.items) }
-    ensures read_right { OnOk result.1
-        (StayRight spare.old.items pieces.old.items spare.new.items pieces.new.items) }
     ensures read { IfOk result.1
         (HasReadPieces (R.position input.old) reader.old (R.position input.new)
         (R.failed input.new) reader.new pieces.new.items) }
+    ensures right { OnOk result.0
+        (OnOk result.1 (AreRight judge.new.judge.names pieces.new.items)) }
 {
     let alloc = cutters.alloc;
-    let mut taking = || -> Result<(), ReadFault>
+    let taken = judge.take_pieces(alloc, lists, ahead);
+    let read = reader.read_ahead(alloc, input, ahead, pieces, cutters.threads);
+    (taken, read)
+}
+
+// Judges the pieces that were cut before and reads the next ones, while each of those between is cut in a thread of its
+// own. The calling thread starts them all: none waits until another one is there that starts it.
+#[cycle(rounds)]
+fn take_beside_cutting<T: Threads + Sync, R: Source>(
+    rt: &T,
+    cutters: Cutters,
+    judge: &mut LineReader,
+    lists: &mut Lists,
+    ahead: &mut Vec<Piece>,
+    reader: &mut LineReader,
+    input: &mut R,
+    pieces: &mut Vec<Piece>,
+    next: &mut [Piece],
+) -> (Result<(), ReadFault>, Result<Ending, AllocError>)
+    requires can { CanJudge judge.old ahead.old.items }
+    requires right { AreRight judge.old.judge.names ahead.old.items }
+    requires can_read { CanReadPieces cutters.threads
+        reader.old (R.failed input.old) pieces.old.items }
+    requires short { AreShort next.old }
+    ensures taken { JudgesText judge.old lists.old (text_of ahead.old.items)
+        judge.new lists.new result.0 }
+    ensures read { IfOk result.1
+        (HasReadPieces (R.position input.old) reader.old (R.position input.new)
+        (R.failed input.new) reader.new pieces.new.items) }
+    ensures right { OnOk result.0
+        (OnOk result.1 (AreRight judge.new.judge.names pieces.new.items)) }
+    ensures cut { HasCut next.old next.new }
+{
+    match next.split_first_mut() {
+        Some((first, others)) => cut_beside(
+            rt, cutters, judge, lists, ahead, reader, input, pieces, first, others,
+        ),
+        None => take_and_read(cutters, judge, lists, ahead, reader, input, pieces),
+    }
+}
+
+// The same, where the first one of those between stands apart.
+#[cycle(rounds)]
+fn cut_beside<T: Threads + Sync, R: Source>(
+    rt: &T,
+    cutters: Cutters,
+    judge: &mut LineReader,
+    lists: &mut Lists,
+    ahead: &mut Vec<Piece>,
+    reader: &mut LineReader,
+    input: &mut R,
+    pieces: &mut Vec<Piece>,
+    first: &mut Piece,
+    others: &mut [Piece],
+) -> (Result<(), ReadFault>, Result<Ending, AllocError>)
+    requires can { CanJudge judge.old ahead.old.items }
+    requires right { AreRight judge.old.judge.names ahead.old.items }
+    requires can_read { CanReadPieces cutters.threads
+        reader.old (R.failed input.old) pieces.old.items }
+    requires short { IsShort first.old }
+    requires others_short { AreShort others.old }
+    ensures taken { JudgesText judge.old lists.old (text_of ahead.old.items)
+        judge.new lists.new result.0 }
+    ensures read { IfOk result.1
+        (HasReadPieces (R.position input.old) reader.old (R.position input.new)
+        (R.failed input.new) reader.new pieces.new.items) }
+    ensures right { OnOk result.0
+        (OnOk result.1 (AreRight judge.new.judge.names pieces.new.items)) }
+    ensures cut { HasCutPiece first.old first.new }
+    ensures others_cut { HasCut others.old others.new }
+{
+    let (alloc, seed, cuts) = (cutters.alloc, cutters.seed, cutters.cuts);
+    let mut cutting = ||
+        requires { IsShort first.now }
+        ensures { HasCutPiece first.entry.now first.exit.now }
+    { first.cut(alloc, seed, cuts) };
+    let mut going_on = || -> (Result<(), ReadFault>, Result<Ending, AllocError>)
+        requires sync { IsSync T.row }
         requires can { CanJudge judge.now ahead.now.items }
         requires right { AreRight judge.now.judge.names ahead.now.items }
-        ensures taken { JudgesText judge.entry.now lists.entry.now (text_of ahead.entry.now.items)
-            judge.exit.now lists.exit.now result }
-        ensures right { OnOk result (AreRight judge.exit.now.judge.names ahead.exit.now.items) }
-    { judge.take_pieces(alloc, lists, ahead) };
-    let mut reading = || -> Result<Ending, AllocError>
-        requires { CanReadPieces cutters.threads
+        requires can_read { CanReadPieces cutters.threads
             reader.now (R.failed input.now) pieces.now.items }
-        ensures read { IfOk result
+        requires short { AreShort others.now }
+        ensures taken { JudgesText judge.entry.now lists.entry.now (text_of ahead.entry.now.items)
+            judge.exit.now lists.exit.now result.0 }
+        ensures read { IfOk result.1
             (HasReadPieces (R.position input.entry.now) reader.entry.now
             (R.position input.exit.now) (R.failed input.exit.now) reader.exit.now
             pieces.exit.now.items) }
-        ensures right { OnOk result
-            (StayRight spare.entry.now.items pieces.entry.now.items
-            spare.exit.now.items pieces.exit.now.items) }
-    { read_and_cut(rt, cutters, reader, input, spare, pieces) };
-    join_mut(rt, &mut taking, &mut reading)
+        ensures right { OnOk result.0
+            (OnOk result.1 (AreRight judge.exit.now.judge.names pieces.exit.now.items)) }
+        ensures cut { HasCut others.entry.now others.exit.now }
+    {
+        take_beside_cutting(
+            rt, cutters, judge, lists, ahead, reader, input, pieces, others,
+        )
+    };
+    let ((), both) = join_mut(rt, &mut cutting, &mut going_on);
+    both
 }
 
-// Judges the pieces that were read ahead while the next ones are read and cut. Where none are ahead a single piece is
-// read, and no thread started.
-fn take_and_read<T: Threads + Sync, R: Source>(
+// As `take_beside_cutting`, of all pieces of a list.
+fn take_beside_list<T: Threads + Sync, R: Source>(
     rt: &T,
     cutters: Cutters,
     judge: &mut LineReader,
@@ -178,34 +255,33 @@ fn take_and_read<T: Threads + Sync, R: Source>(
     ahead: &mut Vec<Piece>,
     reader: &mut LineReader,
     input: &mut R,
-    spare: &mut Vec<Piece>,
     pieces: &mut Vec<Piece>,
+    next: &mut Vec<Piece>,
 ) -> (Result<(), ReadFault>, Result<Ending, AllocError>)
     requires can { CanJudge judge.old ahead.old.items }
     requires right { AreRight judge.old.judge.names ahead.old.items }
     requires can_read { CanReadPieces cutters.threads
         reader.old (R.failed input.old) pieces.old.items }
+    requires short { AreShort next.old.items }
     ensures taken { JudgesText judge.old lists.old (text_of ahead.old.items)
         judge.new lists.new result.0 }
-    ensures right { OnOk result.0 (AreRight judge.new.judge.names ahead.new.items) }
-    ensures read_right { OnOk result.1
-        (StayRight spare.old.items pieces.old.items spare.new.items pieces.new.items) }
     ensures read { IfOk result.1
         (HasReadPieces (R.position input.old) reader.old (R.position input.new)
         (R.failed input.new) reader.new pieces.new.items) }
+    ensures right { OnOk result.0
+        (OnOk result.1 (AreRight judge.new.judge.names pieces.new.items)) }
+    ensures cut { HasCut next.old.items next.new.items }
 {
-    if ahead.is_empty() {
-        let first = Cutters {
-            alloc: cutters.alloc,
-            seed: cutters.seed,
-            threads: 1,
-            cuts: false,
-        };
-        let read = read_and_cut(rt, first, reader, input, spare, pieces);
-        return (judge.take_pieces(cutters.alloc, lists, ahead), read);
-    }
-    take_beside_reading(
-        rt, cutters, judge, lists, ahead, reader, input, spare, pieces,
+    take_beside_cutting(
+        rt,
+        cutters,
+        judge,
+        lists,
+        ahead,
+        reader,
+        input,
+        pieces,
+        next.as_mut_slice(),
     )
 }
 
@@ -345,28 +421,66 @@ fn leave<R: Source>(
     }
 }
 
-// What is heard where two readers read ahead to the end of the source: the one judges what the other has read.
-fn read_ahead<T: Threads + Sync, R: Source>(
+// The same, where these pieces are left before, which were cut. The last ones are cut if that pays.
+#[inline(never)]
+fn leave_both<T: Threads + Sync, R: Source>(
+    rt: &T,
+    cutters: Cutters,
+    reader: LineReader,
+    mut judge: LineReader,
+    mut lists: Lists,
+    ahead: &mut Vec<Piece>,
+    next: &mut Vec<Piece>,
+    input: &mut R,
+    ending: Ending,
+) -> Result<Heard, AllocError>
+    requires threads { 0 < cutters.threads }
+    requires can { CanJudge judge ahead.old.items }
+    requires right { AreRight judge.judge.names ahead.old.items }
+    requires next { CanCutAndJudge judge (text_of ahead.old.items) next.old.items }
+    requires room { vec_len reader.buffer ≡ CHUNK }
+    requires on { ending ≡ More
+        → CanReadAhead reader judge (text_of ahead.old.items ++ text_of next.old.items) }
+    requires not_failed { ending ≡ More → R.failed input.old ≡ false }
+    ensures { IfOk result
+        (HearsEnding ending (R.position input.old) (R.failed input.old) reader judge lists
+        (text_of ahead.old.items ++ text_of next.old.items) (R.position input.new)
+        (R.failed input.new)) }
+{
+    let alloc = cutters.alloc;
+    let paying = cutters.where_it_pays(may_pay(ahead.as_slice()));
+    cut_pieces(rt, paying, next);
+    match judge.take_pieces(alloc, &mut lists, ahead) {
+        Ok(()) => leave(alloc, reader, judge, lists, next, input, ending),
+        Err(ReadFault::Line { line, kind }) => Ok(stop_ahead(reader, input, ending, line, kind)),
+        Err(ReadFault::Memory) => Err(AllocError),
+    }
+}
+
+// What is heard where two readers read ahead to the end of the source: the one judges what the other has read. These
+// pieces were read first.
+fn read_rounds<T: Threads + Sync, R: Source>(
     rt: &T,
     cutters: Cutters,
     mut reader: LineReader,
     mut judge: LineReader,
     mut lists: Lists,
+    mut next: Vec<Piece>,
     input: &mut R,
 ) -> Result<Heard, AllocError>
     requires threads { 0 < cutters.threads }
-    requires can { CanReadAhead reader judge [] }
+    requires can { CanReadAhead reader judge (text_of next.items) }
+    requires short { AreShort next.items }
+    requires right { AreRight judge.judge.names next.items }
     requires not_failed { R.failed input.old ≡ false }
     ensures { IfOk result
-        (HearsRest (R.position input.old) reader judge lists [] (R.position input.new)
-        (R.failed input.new)) }
+        (HearsRest (R.position input.old) reader judge lists (text_of next.items)
+        (R.position input.new) (R.failed input.new)) }
 {
-    let alloc = cutters.alloc;
-    let mut ahead = Vec::new(alloc);
-    let mut spare = Vec::new(alloc);
+    let mut ahead = Vec::new(cutters.alloc);
     loop {
-        let mut pieces = Vec::new(alloc);
-        let (taken, read) = take_and_read(
+        let mut pieces = Vec::new(cutters.alloc);
+        let (taken, read) = take_beside_list(
             rt,
             cutters,
             &mut judge,
@@ -374,8 +488,8 @@ fn read_ahead<T: Threads + Sync, R: Source>(
             &mut ahead,
             &mut reader,
             input,
-            &mut spare,
             &mut pieces,
+            &mut next,
         );
         let ending = read?;
         match taken {
@@ -385,12 +499,54 @@ fn read_ahead<T: Threads + Sync, R: Source>(
             }
             Err(ReadFault::Memory) => return Err(AllocError),
         }
-        if !goes_on(ending, pieces.as_slice()) {
-            return leave(alloc, reader, judge, lists, &mut pieces, input, ending);
+        if !goes_on(ending, next.as_slice()) {
+            return leave_both(
+                rt,
+                cutters,
+                reader,
+                judge,
+                lists,
+                &mut next,
+                &mut pieces,
+                input,
+                ending,
+            );
         }
-        spare = ahead;
-        ahead = pieces;
+        ahead = next;
+        next = pieces;
     }
+}
+
+// What is heard where two readers read to the end of the source, of which nothing was read.
+fn read_ahead<T: Threads + Sync, R: Source>(
+    rt: &T,
+    cutters: Cutters,
+    mut reader: LineReader,
+    judge: LineReader,
+    lists: Lists,
+    input: &mut R,
+) -> Result<Heard, AllocError>
+    requires threads { 0 < cutters.threads }
+    requires can { CanReadAhead reader judge [] }
+    requires not_failed { R.failed input.old ≡ false }
+    ensures { IfOk result
+        (HearsRest (R.position input.old) reader judge lists [] (R.position input.new)
+        (R.failed input.new)) }
+{
+    let mut pieces = Vec::new(cutters.alloc);
+    let ending = read_first(rt, cutters, &mut reader, input, &mut pieces)?;
+    if goes_on(ending, pieces.as_slice()) {
+        return read_rounds(rt, cutters, reader, judge, lists, pieces, input);
+    }
+    leave(
+        cutters.alloc,
+        reader,
+        judge,
+        lists,
+        &mut pieces,
+        input,
+        ending,
+    )
 }
 
 /// As [`read_source`], in so many threads: what is heard doesn't depend on their number. With fewer than three the

@@ -1,13 +1,11 @@
 //! Reading ahead: what the reads give is cut into lines before it is judged.
-ghost use Rattle.std.specs.Prelude.{◌≡◌, ◌+◌, ◌<◌, ◌≤◌, List, [], ◌∷◌, ◌++◌, Contains, false, drop, is_err, length, take, Ok, Some, vec_len, IfOk, OnErr, OnOk};
-ghost use Rattle.std.specs.Io.KnownBytes.{Consumes, IsAtEnd, Keeps};
+ghost use Rattle.std.specs.Prelude.{◌≡◌, ◌+◌, ◌<◌, ◌≤◌, List, [], ◌∷◌, ◌++◌, Contains, drop, length, take, Ok, Some, vec_len, IfOk, OnOk};
 ghost use Rattle.gl_event.specs.declared.events.Event.{Event};
-ghost use Rattle.gl_io.specs.Positions.{LieBetween};
 ghost use Rattle.gl_io.specs.declared.source.TheConstants.{CHUNK};
 ghost use Rattle.gl_std.specs.Line.{cut_at};
 ghost use Rattle.gl_std.specs.Lines.{LF};
 ghost use Rattle.gl_std.specs.Names.{NameLists};
-ghost use Rattle.gl_std.specs.bodies.Ahead.{bytes_of, text_of, AreRight, AreShort, CanJudge, CanJudgeText, HasAddedPieces, HasFilledPiece, HasGoneOn, HasReadOn, HasTakenTurn, IsCut, IsRightPiece, IsShort, JudgesText, StayRight};
+ghost use Rattle.gl_std.specs.bodies.Ahead.{bytes_of, text_of, AreRight, AreShort, CanJudge, CanJudgeText, HasAddedPieces, HasCutPiece, HasFilledPiece, HasGoneOn, IsCut, IsRightPiece, IsShort, JudgesText, StayRight};
 ghost use Rattle.gl_std.specs.bodies.Blocks.{IsBlockOf, IsRight};
 ghost use Rattle.gl_std.specs.bodies.Judgements.{CanJudgeLine};
 ghost use Rattle.gl_std.specs.bodies.States.{IsSound};
@@ -74,12 +72,8 @@ impl Piece {
     /// Cuts it into lines, where that is asked for and memory isn't refused. Else its lines are judged from its
     /// text. Each name is looked up at most once by hash.
     pub(crate) fn cut(&mut self, alloc: Global, seed: Seed, cuts: bool)
-        requires short { IsShort self.old }
-        ensures cut { IsCut self.new }
-        ensures short { IsShort self.new }
-        ensures same { bytes_of self.new ≡ bytes_of self.old }
-        ensures right { (names : NameLists) → IsRightPiece names self.old
-            → IsRightPiece names self.new }
+        requires { IsShort self.old }
+        ensures { HasCutPiece self.old self.new }
     {
         let spare = self.block.take();
         if !cuts {

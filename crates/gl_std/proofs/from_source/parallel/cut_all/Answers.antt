@@ -1,17 +1,19 @@
-use Rattle.std.proofs.Common.{◌≡◌, ◌<◌, ◌∙◌, ℕ, length, get_or, sym, ap, subst, arith}
-use Rattle.gl_std.specs.bodies.Ahead.{bytes_of, IsRightPiece}
-use Rattle.gl_std.specs.declared.line_reader.pieces.Piece.{Piece}
+use Rattle.std.proofs.Common.{◌≡◌, ◌<◌, ◌∙◌, length, sym, ap, subst, arith}
+use Rattle.gl_std.specs.bodies.Ahead.{bytes_of, IsCut, IsRightPiece, IsShort}
 use Rattle.gl_std.proofs.PiecesAhead.{text_alike}
 use Rattle.gl_std.proofs.from_source.parallel.cut_all.Goals as goal
 
-pub returns-clause-same : goal.returns-clause-same
-returns-clause-same g c =
-    let each : (k : ℕ) (d : Piece) → k < length c.args.pieces.now → bytes_of (get_or c.for_each_mut.new.s k d) ≡ bytes_of (get_or c.args.pieces.now k d) = λ k d within. let at = (c.for_each_mut.ensures k d within).1 in ap bytes_of (sym at.left) ∙ at.call.1.1.0 ∙ ap bytes_of at.argument_is in
-    text_alike c.args.pieces.now c.for_each_mut.new.s (search) each
-
-pub returns-clause-right : goal.returns-clause-right
-returns-clause-right g c = λ names are k d within.
-    let size : length c.for_each_mut.new.s ≡ length c.args.pieces.now = search in
-    let there : k < length c.args.pieces.now = omega (arith, within, size) in
-    let at = (c.for_each_mut.ensures k d there).1 in
-    subst (IsRightPiece names) at.left (at.call.1.1.1 names (subst (IsRightPiece names) (sym at.argument_is) (are k d there)))
+pub returns : goal.returns
+returns g c =
+    let old = c.args.pieces.now in
+    let new = c.for_each_mut.new.s in
+    let size : length new ≡ length old = search in
+    record {
+      cut = λ k d within. let at = (c.for_each_mut.ensures k d (omega (arith, within, size))).1 in subst IsCut at.left at.call.cut;
+      short = λ k d within. let at = (c.for_each_mut.ensures k d (omega (arith, within, size))).1 in subst IsShort at.left at.call.short;
+      same = text_alike old new size (λ k d within. let at = (c.for_each_mut.ensures k d within).1 in ap bytes_of (sym at.left) ∙ at.call.same ∙ ap bytes_of at.argument_is);
+      right = λ names are k d within.
+          let there : k < length old = omega (arith, within, size) in
+          let at = (c.for_each_mut.ensures k d there).1 in
+          subst (IsRightPiece names) at.left (at.call.right names (subst (IsRightPiece names) (sym at.argument_is) (are k d there)));
+    }
