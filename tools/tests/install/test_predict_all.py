@@ -4,6 +4,9 @@ import json
 import os
 import pathlib
 import shutil
+import signal
+import subprocess
+import time
 
 import pytest
 from installing import run
@@ -222,6 +225,58 @@ def test_a_program_that_fails_leaves_no_report(path):
     status, _, errors = predict_all(path, "--program", "./stand-in", "a.std")
     assert (status, errors) == (1, "goodlock-predict-all: a.std: goodlock: write failed (status 4)\n")
     assert reports() == {}
+
+
+def eventually(is_so):
+    """Waits until it is so; a minute is a hang."""
+    end = time.monotonic() + 60
+    while not is_so():
+        assert time.monotonic() < end
+        time.sleep(0.01)
+
+
+def states(names):
+    """Of the processes whose numbers these files have: R, S, T .., and Z where they have ended."""
+    files = [pathlib.Path("/proc", pathlib.Path(name).read_text().strip(), "stat") for name in names]
+    return [file.read_text().rpartition(")")[2].split()[0] if file.exists() else "Z" for file in files]
+
+
+def predicting(path, then):
+    """Predicts three traces, two at a time, by a program that writes half a report, and then does this; and the files of the numbers
+    of the first two."""
+    for name in ("a.std", "b.std", "c.std"):
+        write(name, TRACE)
+    write("stand-in", f"#!/bin/sh\necho '{{'\necho $$ >number.$$\nmv number.$$ running.$$\n{then}\n")
+    os.chmod("stand-in", 0o755)
+    words = [path / "goodlock-predict-all", "-j", "2", "--program", "./stand-in", "a.std", "b.std", "c.std"]
+    with open("errors", "w") as errors:
+        process = subprocess.Popen(words, stderr=errors)
+    eventually(lambda: len(list(pathlib.Path().glob("running.*"))) == 2)
+    return process, list(pathlib.Path().glob("running.*"))
+
+
+@pytest.mark.parametrize("name", ["SIGHUP", "SIGINT", "SIGQUIT", "SIGTERM"])
+def test_a_signal_ends_all_predictions(path, name):
+    process, running = predicting(path, "trap 'sleep 0.1; exit 1' TERM\nwhile [ -e a.std ]; do sleep 0.1; done")
+    process.send_signal(signal.Signals[name])
+    try:
+        status, errors = process.wait(timeout=60), pathlib.Path("errors").read_text()
+        left = [path.name for path in pathlib.Path("reports").rglob("*") if path.is_file()]
+        found = (status, errors, left, states(running), list(pathlib.Path().glob("running.*")))
+    finally:
+        os.remove("a.std")  # by which a program that still runs ends
+    assert found == (-signal.Signals[name], "", [], ["Z", "Z"], running)
+
+
+def test_what_a_terminal_stops_goes_on_afterwards(path):
+    process, running = predicting(path, "while [ -e a.std ]; do sleep 0.1; done\necho '}'")
+    process.send_signal(signal.SIGTSTP)
+    eventually(lambda: states(running) == ["T", "T"])
+    assert os.WIFSTOPPED(os.waitpid(process.pid, os.WUNTRACED)[1])
+    os.remove("a.std")
+    process.send_signal(signal.SIGCONT)
+    assert (process.wait(timeout=60), pathlib.Path("errors").read_text()) == (0, "")
+    assert set(reports()) == {"a.std.json", "b.std.json", "c.std.json"}
 
 
 USAGE = [
