@@ -50,11 +50,20 @@ def is_program(name):
     return find_tool(name) is not None
 
 
+def is_script(name):
+    """Whether the interpreter is to run it: by its ending; as what it runs and the system doesn't, whatever else PATH has by that name;
+    or as something that is no program."""
+    if name.endswith((".py", ".pyc", ".pyz")) or os.path.isfile(os.path.join(name, "__main__.py")):
+        return True
+    if os.path.isfile(name) and not os.access(name, os.X_OK):
+        return True
+    return os.path.exists(name) and not is_program(name)
+
+
 def with_interpreter(command, interpreter):
     """A script, or options of the interpreter, are run by it; any other program runs as it is."""
     first = command[0]
-    is_script = first.endswith((".py", ".pyc", ".pyz")) or os.path.exists(first) and not is_program(first)
-    if first.startswith("-") or is_script or interpreter:
+    if first.startswith("-") or is_script(first) or interpreter:
         return [interpreter or interpreter_in(os.environ.get("PATH", os.defpath))] + command
     return command
 

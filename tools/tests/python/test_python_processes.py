@@ -123,6 +123,26 @@ def test_ways_to_start():
     )
 
 
+def test_names_that_a_program_has_too():
+    """What python3 alone can run is the script; beside a folder that it can't run, and a file that can be executed, the program is."""
+    for folder in ("fold", "python3"):
+        os.makedirs(folder, exist_ok=True)
+    for path in ("fold/__main__.py", "nl", "code.py"):
+        with open(path, "w") as file:
+            file.write("import threading; threading.Lock().acquire()")
+    shutil.copy("code.py", "env")
+    os.chmod("env", 0o755)
+    for command, place in (
+        (["fold"], "fold/__main__.py:1"),
+        (["nl"], "nl:1"),
+        (["python3", "code.py"], "code.py:1"),
+        (["env", INTERPRETER, "code.py"], "code.py:1"),
+    ):
+        run = Run(PYTHON_RECORD, command)
+        assert run.status == 0, "%s: %s" % (command, run.said)
+        compare(run.lines(), ["main|acq(Lock@%s#1)|%s" % (place, place)])
+
+
 def test_words_that_an_interpreter_would_take():
     """They work as if the interpreter's name stood before them."""
     code = "import threading; threading.Lock().acquire()"
