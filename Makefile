@@ -20,7 +20,7 @@ LIBDIR ?= $(PREFIX)/lib
 # In goodlock.pc: so pkg-config --define-prefix finds both halves of what was moved, or was installed with DESTDIR.
 LIBDIR_BELOW_PREFIX = $(patsubst $(PREFIX)/%,$${prefix}/%,$(LIBDIR))
 INCLUDE := $(PREFIX)/include
-HEADERS := goodlock.h goodlock_debug.h goodlock_names.h goodlock.hpp
+HEADERS := goodlock.h goodlock_debug.h goodlock_names.h goodlock_names_debug.h goodlock.hpp
 SHARED := libgoodlock.so.0
 VERSION := $(shell sed -n '1s/.*(\(.*\)).*/\1/p' debian/changelog)
 MAN := $(SHARE)/man/man1

@@ -3,8 +3,8 @@
  *     cc -DGOODLOCK_DEBUG bank.c -lgoodlock -lpthread
  *
  * goodlock.h includes this file where GOODLOCK_DEBUG is defined, and then each of its calls is looked at before it is
- * made and after. Where a promise is broken, one line on standard error names the call, the promise and what happened,
- * as
+ * made and after, and each of goodlock_names.h (by goodlock_names_debug.h). Where a promise is broken, one line on
+ * standard error names the call, the promise and what happened, as
  *
  *     goodlock: goodlock_pull: a handle is given to one call at a time: another thread is in goodlock_lock with session
  * 7
@@ -16,7 +16,8 @@
  *
  * - A handle is all zero or of something that is open, of the right kind, when a call is given it: not one that was
  *   never set to zero, nor the rest of one that was given back (freed, or handed in).
- * - No two calls at once on one handle, or on two copies of it.
+ * - No two calls at once on one handle, or on two copies of it. (On a table of goodlock_names.h: none beside one that
+ *   opens or frees it, and no two that tell.)
  * - Each session is opened with a number that no other one had, also one that was freed.
  * - No call on a thread that is in a call: from a signal handler, from a memory allocator.
  * - No call in the child of a fork(), where a call was made before in the parent.
@@ -38,10 +39,10 @@
  * - Two calls that nothing orders, but that didn't meet in this run. (Nor does ThreadSanitizer tell of as many races in
  *   this build: the checks order all calls.)
  * - A copy of a handle that was given back, once the memory of that one is another handle's: a copy is then taken for
- *   that handle, moved. In which call a handle was given back is kept for the last 1,024 lanes and reports, and for all
- *   sessions.
+ *   that handle, moved. In which call a handle was given back is kept for the last 1,024 lanes, reports and tables,
+ *   and for all sessions.
  * - A call from a signal handler that interrupts no call, and a fork() before the first call.
- * - What goodlock_names.h asks of its own tables.
+ * - That an address is forgotten between its lock's last mention and the next one's first.
  *
  * ---- What it costs
  *
@@ -92,7 +93,7 @@ extern "C" {
 
 enum {
     GOODLOCK_DEBUG_BUCKETS_ = 4096,
-    GOODLOCK_DEBUG_REMEMBERED_ = 1024, /* lanes and reports that were given back */
+    GOODLOCK_DEBUG_REMEMBERED_ = 1024, /* lanes, reports and tables that were given back */
     GOODLOCK_DEBUG_LEFT_ = 4,
     GOODLOCK_DEBUG_SPANS_ = 4,
     GOODLOCK_DEBUG_HANDLES_ = 2,
@@ -100,7 +101,13 @@ enum {
     GOODLOCK_DEBUG_LINE_ = 400
 };
 
-enum { GOODLOCK_DEBUG_SESSION_, GOODLOCK_DEBUG_LANE_, GOODLOCK_DEBUG_REPORT_, GOODLOCK_DEBUG_KINDS_ };
+enum {
+    GOODLOCK_DEBUG_SESSION_,
+    GOODLOCK_DEBUG_LANE_,
+    GOODLOCK_DEBUG_REPORT_,
+    GOODLOCK_DEBUG_TABLE_, /* of goodlock_names.h */
+    GOODLOCK_DEBUG_KINDS_
+};
 
 /* What is behind a handle, or was. */
 struct goodlock_debug_entry_ {
@@ -133,6 +140,7 @@ struct goodlock_debug_handle_ {
     void **place;
     void *before; /* what it held then */
     int kind;
+    bool is_shared;                      /* with other calls to which it is, too */
     struct goodlock_debug_entry_ *entry; /* NULL: it was all zero */
 };
 
@@ -148,7 +156,7 @@ struct goodlock_debug_call_ {
     struct goodlock_debug_call_ *before, *after;
     uint64_t number; /* of the session that it opens */
     uint32_t thread; /* of the lane that it opened */
-    bool opens, opens_session, opens_mentioned, has_closed, frees_lane, prints;
+    bool opens, opens_session, opens_mentioned, has_closed, frees_lane, prints, tells;
 };
 
 /* What all files share: all zero at first. */
@@ -160,7 +168,7 @@ struct goodlock_debug_all_ {
     struct goodlock_debug_call_ *calls;
     struct goodlock_debug_entry_ *buckets[GOODLOCK_DEBUG_BUCKETS_];
     struct goodlock_debug_entry_ *numbers[GOODLOCK_DEBUG_BUCKETS_];
-    struct goodlock_debug_entry_ *first_back, *last_back; /* lanes and reports that were given back */
+    struct goodlock_debug_entry_ *first_back, *last_back; /* lanes, reports and tables that were given back */
     unsigned back_count;
     uint64_t turns;
 };
@@ -194,7 +202,8 @@ goodlock_debug_tell_(const char *call, const char *promise, const char *format, 
 
 static inline const char *goodlock_debug_kind_(int kind)
 {
-    return kind == GOODLOCK_DEBUG_SESSION_ ? "session" : kind == GOODLOCK_DEBUG_LANE_ ? "lane" : "report";
+    static const char *const words[GOODLOCK_DEBUG_KINDS_] = {"session", "lane", "report", "table"};
+    return words[kind];
 }
 
 /* Words for what is behind a handle. */
@@ -207,8 +216,10 @@ static inline const char *goodlock_debug_words_(const struct goodlock_debug_entr
     else if (entry->kind == GOODLOCK_DEBUG_LANE_)
         snprintf(words, GOODLOCK_DEBUG_WORDS_, "lane %lu of session %llu",
                  GOODLOCK_DEBUG_AS_(unsigned long, entry->thread), number);
-    else
+    else if (entry->kind == GOODLOCK_DEBUG_REPORT_)
         snprintf(words, GOODLOCK_DEBUG_WORDS_, "a report of session %llu", number);
+    else
+        snprintf(words, GOODLOCK_DEBUG_WORDS_, "a table of names");
     return words;
 }
 
@@ -300,7 +311,7 @@ static inline void goodlock_debug_keep_(struct goodlock_debug_call_ *call, const
     *bucket = own;
 }
 
-/* Keeps that it was given back, and for lanes and reports forgets the oldest one of which that is kept. */
+/* Keeps that it was given back, and for all but sessions forgets the oldest one of which that is kept. */
 static inline void goodlock_debug_give_back_(struct goodlock_debug_call_ *call, struct goodlock_debug_entry_ *entry)
 {
     struct goodlock_debug_all_ *const all = &goodlock_debug_all_;
@@ -401,7 +412,8 @@ static inline void goodlock_debug_meet_(const struct goodlock_debug_call_ *call,
     for (unsigned i = 0; i < other->handle_count; i++) {
         const struct goodlock_debug_handle_ *const its = &other->handles[i];
         const bool is_copy = its->before && its->before == handle->before;
-        if (its->place != handle->place && !is_copy)
+        const bool is_shared = its->is_shared && handle->is_shared && !(call->tells && other->tells);
+        if ((its->place != handle->place && !is_copy) || is_shared)
             continue;
         snprintf(words, sizeof words, "this %s", goodlock_debug_kind_(handle->kind));
         goodlock_debug_tell_(call->name, "a handle is given to one call at a time", "another thread is in %s with %s",
@@ -574,9 +586,11 @@ static inline void goodlock_debug_last_(void)
         goodlock_debug_count_(&rest, all->buckets[i]);
     if (rest.first)
         goodlock_debug_tell_("the end of the program", "what was opened is given back",
-                             "left are sessions: %lu, lanes: %lu (not closed: %lu), reports: %lu; the first is %s",
+                             "left are sessions: %lu, lanes: %lu (not closed: %lu), reports: %lu, tables: %lu; "
+                             "the first is %s",
                              rest.open[GOODLOCK_DEBUG_SESSION_], rest.open[GOODLOCK_DEBUG_LANE_], rest.unclosed,
-                             rest.open[GOODLOCK_DEBUG_REPORT_], goodlock_debug_words_(rest.first, words));
+                             rest.open[GOODLOCK_DEBUG_REPORT_], rest.open[GOODLOCK_DEBUG_TABLE_],
+                             goodlock_debug_words_(rest.first, words));
     goodlock_debug_unlock_();
 }
 

@@ -44,11 +44,11 @@
  *
  * ---- What the caller promises
  *
- * What goodlock.h says of handles and pointers, but that many threads may be in calls on one table at once. Two calls
- * are made alone: goodlock_names_open comes before all others, and goodlock_names_free after them, which something
- * orders: the start of a thread, a join. For one address, goodlock_names_forget comes after all mentions of the lock
- * that was there and before all of the next one: whoever destroys a mutex sees to that already. The calls that tell are
- * made by one thread at a time for a table.
+ * What goodlock.h says of handles and pointers, but that many threads may be in calls on one table at once (a build
+ * with -DGOODLOCK_DEBUG checks most of it: goodlock_names_debug.h). Two calls are made alone: goodlock_names_open comes
+ * before all others, and goodlock_names_free after them, which something orders: the start of a thread, a join. For one
+ * address, goodlock_names_forget comes after all mentions of the lock that was there and before all of the next one:
+ * whoever destroys a mutex sees to that already. The calls that tell are made by one thread at a time for a table.
  *
  * ---- What it costs
  *
@@ -557,5 +557,9 @@ static inline uint32_t goodlock_tell_places(goodlock_session *session, const goo
 {
     return goodlock_names_tell_(session, names, told, goodlock_place);
 }
+
+#ifdef GOODLOCK_DEBUG /* the calls above check what their caller promised */
+#include "goodlock_names_debug.h"
+#endif
 
 #endif

@@ -1,5 +1,5 @@
-/* Tests goodlock_debug.h: each promise is broken by each call, in a process of its own, of which the line on standard
- * error and the signal are compared; and what may be done is done without a word.
+/* Tests goodlock_debug.h and goodlock_names_debug.h: each promise is broken by each call, in a process of its own, of
+ * which the line on standard error and the signal are compared; and what may be done is done without a word.
  *
  *     library_debug broken     one promise after the other, by all calls
  *     library_debug right      what keeps the promises
@@ -10,6 +10,7 @@
 #include "checks.h"
 #include "debug_other.h"
 #include "goodlock.h"
+#include "goodlock_names.h"
 
 #include <pthread.h>
 #include <signal.h>
@@ -118,14 +119,15 @@ void __wrap_free(void *old)
 }
 #endif
 
-/* ---- A session with a lane, which is closed, and a report */
+/* ---- A session with a lane, which is closed, and a report; a table of one name */
 
 static struct world {
     goodlock_session session;
     goodlock_lane lane;
     goodlock_report report;
+    goodlock_names names;
     uint8_t name[8], buffer[8];
-    uint32_t thread, lock, place, at;
+    uint32_t thread, lock, place, at, number, told;
     goodlock_pulled pulled;
     size_t needed, cycles;
     bool more;
@@ -137,10 +139,13 @@ static void begin(void)
     expect("lane", goodlock_lane_open(&world.session, &world.lane, &world.thread), GOODLOCK_OK);
     expect("close", goodlock_close(&world.lane), GOODLOCK_OK);
     expect("report", goodlock_report_so_far(&world.session, GOODLOCK_FULL_MODE, 4, 10, &world.report), GOODLOCK_OK);
+    expect("table", goodlock_names_open(4, &world.names), GOODLOCK_OK);
+    expect("name", goodlock_names_of(&world.names, world.name, sizeof world.name, &world.number), GOODLOCK_OK);
 }
 
 static void end(void)
 {
+    goodlock_names_free(&world.names);
     goodlock_report_free(&world.report);
     goodlock_lane_free(&world.lane);
     goodlock_session_free(&world.session);
@@ -151,11 +156,11 @@ static void *pointer_of(const char *word)
     const struct {
         const char *word;
         void *at;
-    } all[] = {{"session", &world.session}, {"lane", &world.lane},     {"report", &world.report},
-               {"name", world.name},        {"buffer", world.buffer},  {"thread", &world.thread},
-               {"lock", &world.lock},       {"place", &world.place},   {"at", &world.at},
-               {"pulled", &world.pulled},   {"needed", &world.needed}, {"cycles", &world.cycles},
-               {"more", &world.more}};
+    } all[] = {
+        {"session", &world.session}, {"lane", &world.lane},     {"report", &world.report}, {"name", world.name},
+        {"buffer", world.buffer},    {"thread", &world.thread}, {"lock", &world.lock},     {"place", &world.place},
+        {"at", &world.at},           {"pulled", &world.pulled}, {"needed", &world.needed}, {"cycles", &world.cycles},
+        {"more", &world.more},       {"names", &world.names},   {"number", &world.number}, {"told", &world.told}};
     for (size_t i = 0; i < COUNT(all); i++)
         if (strcmp(all[i].word, word) == 0)
             return all[i].at;
@@ -274,6 +279,51 @@ static void make_close(void **at)
     goodlock_close((goodlock_lane *)at[0]);
 }
 
+static void make_names_open(void **at)
+{
+    goodlock_names_open(4, (goodlock_names *)at[0]);
+}
+
+static void make_names_free(void **at)
+{
+    goodlock_names_free((goodlock_names *)at[0]);
+}
+
+static void make_names_of(void **at)
+{
+    goodlock_names_of((goodlock_names *)at[0], (const uint8_t *)at[1], 8, (uint32_t *)at[2]);
+}
+
+static void make_names_at(void **at)
+{
+    goodlock_names_at((goodlock_names *)at[0], NULL, (const uint8_t *)at[1], 8, (uint32_t *)at[2]);
+}
+
+static void make_names_literal(void **at)
+{
+    goodlock_names_literal((goodlock_names *)at[0], NULL, (uint32_t *)at[1]);
+}
+
+static void make_names_forget(void **at)
+{
+    goodlock_names_forget((goodlock_names *)at[0], NULL);
+}
+
+static void make_names_count(void **at)
+{
+    goodlock_names_count((goodlock_names *)at[0]);
+}
+
+static void make_tell_locks(void **at)
+{
+    goodlock_tell_locks((goodlock_session *)at[0], (goodlock_names *)at[1], (uint32_t *)at[2]);
+}
+
+static void make_tell_places(void **at)
+{
+    goodlock_tell_places((goodlock_session *)at[0], (goodlock_names *)at[1], (uint32_t *)at[2]);
+}
+
 static const struct call {
     const char *name;
     void (*make)(void **at);
@@ -301,6 +351,15 @@ static const struct call {
     {"goodlock_report_free", make_report_free, {"report", NULL, NULL, NULL}},
     {"goodlock_record", make_record, {"lane", "at", NULL, NULL}},
     {"goodlock_close", make_close, {"lane", NULL, NULL, NULL}},
+    {"goodlock_names_open", make_names_open, {"names", NULL, NULL, NULL}},
+    {"goodlock_names_free", make_names_free, {"names", NULL, NULL, NULL}},
+    {"goodlock_names_of", make_names_of, {"names", "name", "number", NULL}},
+    {"goodlock_names_at", make_names_at, {"names", "name", "number", NULL}},
+    {"goodlock_names_literal", make_names_literal, {"names", "number", NULL, NULL}},
+    {"goodlock_names_forget", make_names_forget, {"names", NULL, NULL, NULL}},
+    {"goodlock_names_count", make_names_count, {"names", NULL, NULL, NULL}},
+    {"goodlock_tell_locks", make_tell_locks, {"session", "names", "told", NULL}},
+    {"goodlock_tell_places", make_tell_places, {"session", "names", "told", NULL}},
 };
 
 /* ---- A trial: a process that breaks a promise, or none */
@@ -422,8 +481,10 @@ static void give_back(const char *word)
         goodlock_session_free(&world.session);
     else if (strcmp(word, "lane") == 0)
         goodlock_lane_free(&world.lane);
-    else
+    else if (strcmp(word, "report") == 0)
         goodlock_report_free(&world.report);
+    else
+        goodlock_names_free(&world.names);
 }
 
 /* The handle was never set to zero. */
@@ -529,7 +590,8 @@ static void go_on_after_the_call(void)
 
 static bool is_handle(const char *word)
 {
-    return strcmp(word, "session") == 0 || strcmp(word, "lane") == 0 || strcmp(word, "report") == 0;
+    return strcmp(word, "session") == 0 || strcmp(word, "lane") == 0 || strcmp(word, "report") == 0 ||
+           strcmp(word, "names") == 0;
 }
 
 static void begin_trial(const char *name, void (*run)(void), const char *promise)
@@ -545,7 +607,11 @@ static void try_handle(const struct call *call, unsigned one)
 {
     const char *const word = call->words[one];
     const bool is_session = strcmp(word, "session") == 0, is_lane = strcmp(word, "lane") == 0;
-    const char *const own = is_session ? "session 7" : is_lane ? "lane 0 of session 7" : "a report of session 7";
+    const bool is_table = strcmp(word, "names") == 0;
+    const char *const own = is_session ? "session 7"
+                            : is_lane  ? "lane 0 of session 7"
+                            : is_table ? "a table of names"
+                                       : "a report of session 7";
     char none[LINE], back[LINE], busy[LINE];
     const struct {
         const char *name, *promise, *happened;
@@ -555,7 +621,7 @@ static void try_handle(const struct call *call, unsigned one)
                {"given back", BACK, back, hand_over_the_rest},
                {"busy", ALONE, busy, hand_over_a_busy_one},
                {"a busy one's copy", ALONE, busy, hand_over_a_busy_ones_copy}};
-    snprintf(none, LINE, "what this %s holds is of none that is open", word);
+    snprintf(none, LINE, "what this %s holds is of none that is open", is_table ? "table" : word);
     snprintf(back, LINE, "%s was given back by goodlock_%s_free", own, word);
     snprintf(busy, LINE, "another thread is in goodlock_%s%s with %s", is_session ? "lock" : word,
              is_session ? "" : "_free", own);
@@ -756,6 +822,39 @@ static void count_while_it_prints(void)
     goodlock_text(&world.session, &world.report, world.buffer, sizeof world.buffer, &world.needed);
 }
 
+static void tell_places_to_another(void)
+{
+    goodlock_tell_places(&second, &world.names, &world.at);
+}
+
+/* Two threads tell names of one table, each to a session of its own. */
+static void tell_while_it_tells(void)
+{
+    begin();
+    expect("open", goodlock_open(8, 1, 1, &second), GOODLOCK_OK);
+    meet_with(tell_places_to_another);
+    goodlock_tell_locks(&world.session, &world.names, &world.told);
+}
+
+static void free_the_table(void)
+{
+    goodlock_names_free(&world.names);
+}
+
+static void free_while_it_tells(void)
+{
+    begin();
+    meet_with(free_the_table);
+    goodlock_tell_locks(&world.session, &world.names, &world.told);
+}
+
+static void free_while_it_names(void)
+{
+    begin();
+    meet_with(free_the_table);
+    goodlock_names_of(&world.names, (const uint8_t *)"new", 3, &world.number);
+}
+
 static void write_beyond_the_buffer(void)
 {
     union {
@@ -779,6 +878,18 @@ static void name_a_place_of_too_many_bytes(void)
 {
     begin();
     goodlock_place(&world.session, world.name, TOO_MANY_BYTES, &world.place);
+}
+
+static void mention_all_bytes(void)
+{
+    begin();
+    goodlock_names_of(&world.names, world.name, ALL_BYTES, &world.number);
+}
+
+static void mention_too_many_bytes(void)
+{
+    begin();
+    goodlock_names_at(&world.names, &world, world.name, TOO_MANY_BYTES, &world.number);
 }
 
 static void print_into_all_bytes(void)
@@ -807,6 +918,7 @@ static void leave_all(void)
 static void leave_a_lane(void)
 {
     begin();
+    goodlock_names_free(&world.names);
     goodlock_report_free(&world.report);
     goodlock_session_free(&world.session);
 }
@@ -814,6 +926,15 @@ static void leave_a_lane(void)
 static void leave_a_report(void)
 {
     begin();
+    goodlock_names_free(&world.names);
+    goodlock_lane_free(&world.lane);
+    goodlock_session_free(&world.session);
+}
+
+static void leave_a_table(void)
+{
+    begin();
+    goodlock_report_free(&world.report);
     goodlock_lane_free(&world.lane);
     goodlock_session_free(&world.session);
 }
@@ -879,13 +1000,23 @@ static void try_rest(void)
               "the text of a report is made by its own session", "a report of session 7 was given to session 8");
     try_alone("goodlock_cycles", count_while_it_prints, ALONE,
               "another thread is in goodlock_text with a report of session 7");
+    try_alone("goodlock_tell_places", tell_while_it_tells, ALONE,
+              "another thread is in goodlock_tell_locks with a table of names");
+    try_alone("goodlock_names_free", free_while_it_tells, ALONE,
+              "another thread is in goodlock_tell_locks with a table of names");
+    try_alone("goodlock_names_free", free_while_it_names, ALONE,
+              "another thread is in goodlock_names_of with a table of names");
     try_alone("goodlock_text", write_beyond_the_buffer, APART, "`buffer` and `needed` overlap");
     try_alone(leave, leave_all, rest,
-              "left are sessions: 1, lanes: 2 (not closed: 1), reports: 1; the first is session 7");
-    try_alone(leave, leave_a_lane, rest,
-              "left are sessions: 0, lanes: 1 (not closed: 0), reports: 0; the first is lane 0 of session 7");
-    try_alone(leave, leave_a_report, rest,
-              "left are sessions: 0, lanes: 0 (not closed: 0), reports: 1; the first is a report of session 7");
+              "left are sessions: 1, lanes: 2 (not closed: 1), reports: 1, tables: 1; the first is session 7");
+    try_alone(
+        leave, leave_a_lane, rest,
+        "left are sessions: 0, lanes: 1 (not closed: 0), reports: 0, tables: 0; the first is lane 0 of session 7");
+    try_alone(
+        leave, leave_a_report, rest,
+        "left are sessions: 0, lanes: 0 (not closed: 0), reports: 1, tables: 0; the first is a report of session 7");
+    try_alone(leave, leave_a_table, rest,
+              "left are sessions: 0, lanes: 0 (not closed: 0), reports: 0, tables: 1; the first is a table of names");
     try_alone("goodlock_pull", pull_there_what_was_freed_here, BACK,
               "session 7 was given back by goodlock_session_free");
     try_alone("goodlock_pull", pull_here_what_was_freed_there, BACK,
@@ -897,6 +1028,8 @@ static void try_sizes(void)
 {
     try_alone("goodlock_lock", name_a_lock_of_all_bytes, SIZES, "`name` can't for 18446744073709551615");
     try_alone("goodlock_place", name_a_place_of_too_many_bytes, SIZES, "`name` can't for 9223372036854775808");
+    try_alone("goodlock_names_of", mention_all_bytes, SIZES, "`name` can't for 18446744073709551615");
+    try_alone("goodlock_names_at", mention_too_many_bytes, SIZES, "`name` can't for 9223372036854775808");
     try_alone("goodlock_text", print_into_all_bytes, SIZES, "`buffer` can't for 18446744073709551615");
     try_alone("goodlock_json", print_json_into_too_many_bytes, SIZES, "`buffer` can't for 9223372036854775808");
 }
@@ -1035,6 +1168,9 @@ static void refuse_memory(void)
     is_refused = true;
     expect("open", goodlock_open(7, 2, 8, &world.session), GOODLOCK_MEMORY);
     check(world.session.at == NULL && !is_refused, "a session was opened, or no memory was asked for");
+    is_refused = true;
+    expect("table", goodlock_names_open(4, &world.names), GOODLOCK_MEMORY);
+    check(world.names.at == NULL && !is_refused, "a table was opened, or no memory was asked for");
     begin();
     is_refused = true;
     expect("lane", goodlock_lane_open(&world.session, &lane, &world.at), GOODLOCK_MEMORY);
@@ -1069,6 +1205,30 @@ static void work_side_by_side(void)
     be_busy("session");
     check(has_met, "the other thread worked meanwhile");
     expect("hand in", goodlock_hand_in(&world.session, &busy_lane), GOODLOCK_OK);
+    end();
+}
+
+static void name_there(void)
+{
+    uint32_t number, told = 0;
+    has_met = true;
+    expect("a name while one is told", goodlock_names_of(&world.names, (const uint8_t *)"other", 5, &number),
+           GOODLOCK_OK);
+    expect("an address while one is told", goodlock_names_at(&world.names, &number, (const uint8_t *)"at", 2, &number),
+           GOODLOCK_OK);
+    expect("telling while one is told", goodlock_tell_places(&second, &world.names, &told), GOODLOCK_OK);
+    check(goodlock_names_count(&world.names) == 3 && told == 3, "the other thread's names");
+}
+
+/* Two threads are in calls at once on one table. */
+static void name_side_by_side(void)
+{
+    begin();
+    expect("open", goodlock_open(8, 1, 1, &second), GOODLOCK_OK);
+    meet_with(name_there);
+    expect("a name", goodlock_names_of(&world.names, (const uint8_t *)"new", 3, &world.number), GOODLOCK_OK);
+    check(has_met && world.number == 3, "the other thread named meanwhile");
+    goodlock_session_free(&second);
     end();
 }
 
@@ -1181,6 +1341,7 @@ static void try_right(void)
     try_alone("many", open_many, NULL, "");
     try_alone("memory", refuse_memory, NULL, "");
     try_alone("side by side", work_side_by_side, NULL, "");
+    try_alone("names side by side", name_side_by_side, NULL, "");
     try_alone("after both", work_after_both, NULL, "");
     try_alone("by mention", print_by_mention, NULL, "");
     try_alone("nothing", write_nothing, NULL, "");

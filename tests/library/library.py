@@ -166,7 +166,7 @@ WORDS_OF_WRAPPER = "locks names findings unstarted memory thrown texts signals e
 DEBUG = "-DGOODLOCK_DEBUG"
 LEFT = (
     "goodlock: the end of the program: what was opened is given back: "
-    "left are sessions: 1, lanes: {0} (not closed: {0}), reports: 0; the first is session 1\n"
+    "left are sessions: 1, lanes: {0} (not closed: {0}), reports: 0, tables: 0; the first is session 1\n"
 )
 
 Done = collections.namedtuple("Done", "status output errors")
