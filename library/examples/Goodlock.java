@@ -31,7 +31,7 @@ final class Goodlock {
 
     static native void handIn(long session, long lane);
 
-    /** Settles the session, answers its report's text, and frees it. */
+    /** Settles the session, answers its report's text, and frees it. Where it throws, it may be called again. */
     static native String settle(long session);
 
     /** Records an event, as soon as there is room for it. */

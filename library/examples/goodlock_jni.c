@@ -120,21 +120,30 @@ static char *text_of(goodlock_session *session, goodlock_report *report, uint32_
     return text;
 }
 
+/* The report of the session, which is settled where it isn't yet. */
+static uint32_t settled_report(goodlock_session *session, goodlock_report *report)
+{
+    uint32_t missing, code = goodlock_settled_report(session, GOODLOCK_FULL_MODE, 4, 1000, report);
+    if (code != GOODLOCK_MISUSE)
+        return code;
+    code = goodlock_settle(session, &missing);
+    return code == GOODLOCK_OK ? goodlock_settled_report(session, GOODLOCK_FULL_MODE, 4, 1000, report) : code;
+}
+
 JNIEXPORT jstring JNICALL Java_Goodlock_settle(JNIEnv *env, jclass class, jlong handle)
 {
     goodlock_session *session = handle_of(handle);
     goodlock_report report = {0};
-    uint32_t missing, code = goodlock_settle(session, &missing);
+    uint32_t code = settled_report(session, &report);
     char *text = NULL;
     jstring string = NULL;
     (void)class;
     if (code == GOODLOCK_OK)
-        code = goodlock_settled_report(session, GOODLOCK_FULL_MODE, 4, 1000, &report);
-    if (code == GOODLOCK_OK)
         text = text_of(session, &report, &code);
-    if (is_done(env, code)) {
+    if (is_done(env, code))
         string = (*env)->NewStringUTF(env, text);
-        goodlock_report_free(&report);
+    goodlock_report_free(&report);
+    if (string != NULL) {
         goodlock_session_free(session);
         free(session);
     }

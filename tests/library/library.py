@@ -9,6 +9,7 @@ docs/EMBEDDING.md are compiled and run as they stand there, and its commands are
 sessions.c records random sessions in running threads; the text and JSON of each report, of cycles and of findings, has to be
 what PROGRAM says of the trace of what was recorded, byte for byte. Some hundred of them run under AddressSanitizer and
 ThreadSanitizer, and some of each kind under Valgrind.
+Again.java settles again, from Java, where refused.c refused memory.
 misuse.c uses each call wrongly, refuses memory, forks and leaves in mid-course; partial.c leaves events out, and goes
 on in a second session; order.c tells the same by numbers in two orders, and their reports by mention have to be the
 same; wrapper.cc, forms.cc, busy.cc and parts.cc are of goodlock.hpp, names.c of goodlock_names.h, as C and as C++, by many threads and by all short
@@ -409,10 +410,15 @@ class Tests:
         glue = ["-std=gnu11", "-Wall", "-Wextra", "-Werror", "-shared", "-fPIC", *include, EXAMPLES / "goodlock_jni.c"]
         if not self.build("libgoodlock_jni.so", "gcc", *glue, ARCHIVE, "-lpthread"):
             return
-        sources = [EXAMPLES / name for name in ("Bank.java", "Goodlock.java")]
+        sources = [*(EXAMPLES / name for name in ("Bank.java", "Goodlock.java")), HERE / "Again.java"]
         done = run(f"{home}/bin/javac", "-Xlint:all", "-Werror", "-d", self.folder, *sources)
         if self.check("javac", done.status == 0, done.output + done.errors):
             self.example("the example in Java", BY_NAME, f"{home}/bin/java", "-Djava.library.path=.", "Bank")
+        wraps = ["-Wl,--wrap=goodlock_settled_report", "-Wl,--wrap=goodlock_text"]
+        (self.folder / "refused").mkdir()
+        if self.build("refused/libgoodlock_jni.so", "gcc", *glue, HERE / "refused.c", ARCHIVE, *wraps, "-lpthread"):
+            right = "out of memory\nout of memory\ncycles: 0\n"
+            self.example("settled again in Java", right, f"{home}/bin/java", "-Djava.library.path=refused", "Again")
 
     # --- Random sessions
 
