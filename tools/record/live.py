@@ -46,9 +46,9 @@ WAY_JSON, WAY_SETTLED, WAY_SHORT, WAY_COUNT, WAY_FINDINGS = 1, 2, 4, 8, 16
 MODES = {"basic": 0, "guarded": 1, "full": 2}  # as goodlock.h has them
 BATCH = 16  # windows that are reported at once
 # What the library answers, and what goodlock_live adds.
-OK, INCONSISTENT, WITHOUT_EVENTS = 0, 10, 1000
+OK, MEMORY, INCONSISTENT, WITHOUT_EVENTS = 0, 1, 10, 1000
 CODES = {
-    1: "there wasn't enough memory",
+    MEMORY: "there wasn't enough memory",
     4: "it has more threads than goodlock reads",
     INCONSISTENT: "its forks and joins order a part of a thread before itself",
     11: "it has more names than goodlock keeps",
@@ -622,6 +622,8 @@ def report_recording(recording, path, first, running, ends, question, with_funct
         if summary.events:
             is_json = path.endswith(".json")
             summary.report = report_of(recording, summary.process, question, not summary.open, is_json, False)
+            if summary.report.code == MEMORY:
+                raise ConvertError("%s: no report: %s" % (summary.path, summary.report.fault()))
     recording.remove_work()
     write_reports(summaries)
     return summaries, faults

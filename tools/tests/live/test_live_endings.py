@@ -4,6 +4,7 @@ import os
 import shutil
 import signal
 import subprocess
+import sys
 
 import pytest
 from c_programs import NO_DISK, SmallDisk, end, has_ended, raw_directories, raw_directory
@@ -63,6 +64,27 @@ def test_lost_events_are_not_settled():
         shutil.rmtree("small/" + name)
     said = report_later("kept")
     assert "so far, as events were lost" in said, said
+
+
+# goodlock-record, where the library is refused memory for each report.
+REFUSES = """
+import sys
+sys.path.insert(0, %r)
+import launch, live
+live.answered_reports = lambda *asked: iter([live.Report(1, 0, False, b"")])
+sys.exit(launch.main(launch.read_own_arguments, launch.Recorder()))
+""" % os.path.join(TOOLS, "record")
+
+
+def test_report_that_there_is_no_memory_for_is_made_later():
+    command = [sys.executable, "-c", REFUSES, "--live", "-o", "r.json", "./live", "killed"]
+    done = subprocess.run(command, stderr=subprocess.PIPE, timeout=LIMIT)
+    directory = raw_directory("r.json")
+    told = "r.json: no report: there wasn't enough memory (what was recorded is kept in %s)\n" % os.path.abspath(directory)
+    assert done.returncode == REFUSED and told in done.stderr.decode(), done.stderr.decode()
+    assert not os.path.exists("r.json"), "there is a report"
+    said = report_later(directory)
+    assert cycles_in(read_report()) == ORDERS, said
 
 
 @pytest.mark.parametrize("name", ["r.json", "r.json.lines"])
