@@ -223,6 +223,12 @@ def first_place(text):
     return text.split("<", 1)[0].partition(" (")[0]
 
 
+def spelled(text):
+    """A place as a report spells it: what isn't printable ASCII, and a backslash, as a backslash, x and two digits."""
+    data = text.encode("utf-8", "backslashreplace")
+    return "".join(chr(byte) if 0x20 <= byte < 0x7F and byte != 0x5C else "\\x%02x" % byte for byte in data)
+
+
 def same_place(one, other):
     """Places of two runs: a file has as many directories before its name as tell it from others in its run."""
     one, other = first_place(one), first_place(other)
@@ -241,7 +247,7 @@ class Places:
         for process in processes.values():
             for number, (callers, when) in process.sites.items():
                 loaded = process.modules.at(callers[0] - 1, when)
-                text = process.names.places.text(number)
+                text = spelled(process.names.places.text(number))
                 for role, place in self.roles() if loaded else ():
                     if same_place(place, text):
                         self.known.add((role, callers[0] - 1 - loaded.bias, loaded.module.path))
@@ -361,7 +367,7 @@ class Deadlock:
         return self.process.names.places.text(word >> SITE_SHIFT & SITE_MASK)
 
     def pairs(self):
-        return [(self.place(held), self.place(wait.wanted)) for wait, held in self.steps]
+        return [(spelled(self.place(held)), spelled(self.place(wait.wanted))) for wait, held in self.steps]
 
     def is_true(self):
         """Whether each mutex of the cycle belongs to the thread that acquired it: another one may have unlocked it."""
@@ -395,7 +401,7 @@ class Deadlock:
     def held_stack(self, wait, held):
         """The stack of the acquire of a held lock, where it was at a place of the cycle."""
         for number, edge in enumerate(self.places.edges):
-            if same_place(edge["held_at"], self.place(held)):
+            if same_place(edge["held_at"], spelled(self.place(held))):
                 return self.stack(wait.stacks[STACK_LIMIT * (number + 1) : STACK_LIMIT * (number + 2)])
         return []
 

@@ -2,11 +2,13 @@
 
 import os
 import re
+import shutil
 import subprocess
 import textwrap
 
+import confirming
 import pytest
-from c_programs import MARKS, TOOLS
+from c_programs import C_FLAGS, MARKS, SOURCES, TOOLS, build
 from confirming import DEADLOCKED, PATIENTLY, VIEW, deadlocks, run
 
 
@@ -40,6 +42,17 @@ def test_threads_of_a_forked_process(predict, name):
     status, out, said = run([*PATIENTLY, predict("opposite"), "--", "./cycles", name])
     assert status == DEADLOCKED, "status %d: %s%s" % (status, out, said)
     assert "main.1:one_way holds a since" in out and "main.2:other_way holds b since" in out, out
+
+
+@pytest.mark.parametrize("source", ["é.c", "back\\slash.c"])
+def test_a_source_file_may_have_any_name(folder, source):
+    """A report spells it in ASCII."""
+    shutil.copy(os.path.join(SOURCES, "cycles.c"), source)
+    os.mkdir("named")
+    build("gcc", C_FLAGS + ["-I" + SOURCES, "-o", "named/cycles", source])
+    report = confirming.predict("opposite", folder / "named")
+    status, out, said = run([*PATIENTLY, report, "--", "named/cycles", "opposite"])
+    assert status == DEADLOCKED and "    since one_way (%s:42)" % source in out, "status %d: %s%s" % (status, out, said)
 
 
 def test_ring_of_three(predict):
