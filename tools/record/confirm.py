@@ -14,6 +14,7 @@ docs/CONFIRMING.md explains it.
 import json
 import mmap
 import os
+import re
 import shutil
 import signal
 import struct
@@ -218,9 +219,14 @@ def waiting_cycle(waits):
 # --- Places -----------------------------------------------------------------------------------------
 
 
+# A line of a file, or an offset in a module; a file's name may have all that stands between places in it.
+PLACE = re.compile(r".*?(?::[0-9]+|\+0x[0-9a-f]+)(?= \(|<|$)")
+
+
 def first_place(text):
     """Without its callers and its function."""
-    return text.split("<", 1)[0].partition(" (")[0]
+    match = None if text.startswith("?<") else PLACE.match(text)
+    return match[0] if match else text.split("<", 1)[0].partition(" (")[0]
 
 
 def spelled(text):

@@ -44,9 +44,9 @@ def test_threads_of_a_forked_process(predict, name):
     assert "main.1:one_way holds a since" in out and "main.2:other_way holds b since" in out, out
 
 
-@pytest.mark.parametrize("source", ["é.c", "back\\slash.c"])
+@pytest.mark.parametrize("source", ["é.c", "back\\slash.c", "one (copy).c", "less<than.c"])
 def test_a_source_file_may_have_any_name(folder, source):
-    """A report spells it in ASCII."""
+    """A report spells it in ASCII, and writes functions and callers behind it."""
     shutil.copy(os.path.join(SOURCES, "cycles.c"), source)
     os.mkdir("named")
     build("gcc", C_FLAGS + ["-I" + SOURCES, "-o", "named/cycles", source])

@@ -1,6 +1,13 @@
 """False alarms, and runs that don't come to the cycle: it doesn't bring these about."""
 
+import os
+import sys
+
+from c_programs import TOOLS
 from confirming import NOT_SEEN, PATIENTLY, false_alarm, run
+
+sys.path.insert(0, os.path.join(TOOLS, "record"))
+import confirm  # noqa: E402
 
 
 def test_mutex_that_another_thread_unlocks(predict):
@@ -32,6 +39,14 @@ def test_order_by_a_flag(predict):
 
 def test_other_locks_at_the_same_places(predict):
     false_alarm(predict, "false_own_locks")
+
+
+def test_other_lines_of_a_file_whose_name_has_parentheses():
+    """As a function that stands behind a place has them."""
+    assert not confirm.same_place("one (copy).c:42", "one (copy).c:51")
+    assert confirm.same_place("one (copy).c:42 (one_way)<less<than.c:7 (main)", "src/one (copy).c:42")
+    assert confirm.same_place("less<than.c:7<one (copy).c:42", "less<than.c:7")
+    assert confirm.same_place("a (deleted)+0x1f (take<int>)", "a (deleted)+0x1f")
 
 
 def test_program_that_never_ends(predict):
