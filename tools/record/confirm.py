@@ -43,7 +43,7 @@ from convert import (  # noqa: E402
     without_parameters,
 )
 from family import Family, adopt_orphans, script_command, send_signal  # noqa: E402
-from findings import ReportError, read_findings  # noqa: E402
+from findings import ReportError, place_of, read_findings  # noqa: E402
 from launch import (  # noqa: E402
     VERSION,
     Failed,
@@ -372,8 +372,12 @@ class Deadlock:
     def place(self, word):
         return self.process.names.places.text(word >> SITE_SHIFT & SITE_MASK)
 
+    def location(self, word):
+        """As findings tell it."""
+        return place_of(spelled(self.place(word)), spelled(self.process.names.locks.get(word >> OBJECT_SHIFT, "?")))
+
     def pairs(self):
-        return [(spelled(self.place(held)), spelled(self.place(wait.wanted))) for wait, held in self.steps]
+        return [(self.location(held), self.location(wait.wanted)) for wait, held in self.steps]
 
     def is_true(self):
         """Whether each mutex of the cycle belongs to the thread that acquired it: another one may have unlocked it."""

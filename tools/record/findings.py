@@ -1,6 +1,11 @@
 """The findings of one report, numbered as goodlock-view numbers them."""
 
 import json
+import re
+
+# Names of reports are printable ASCII, and so is what stands in them for other bytes.
+NAME = re.compile(r"[\x20-\x7e]*")
+ADDRESS = re.compile(r"0x[0-9a-fA-F]+")
 
 
 class ReportError(Exception):
@@ -21,19 +26,35 @@ class Finding:
             self.sample = cycle
 
 
+def place_of(location, lock):
+    """The location, or the lock without its addresses where the location says nothing."""
+    if not (NAME.fullmatch(location) and NAME.fullmatch(lock)):
+        raise ValueError("no name of a report")
+    return location if location.strip() not in ("", "?") else "?(%s)" % ADDRESS.sub("0x*", lock)
+
+
 def pair_of(edge):
-    return edge["held_at"], edge["wanted_at"]
+    return place_of(edge["held_at"], edge["held"]), place_of(edge["wanted_at"], edge["wanted"])
+
+
+def cycles_of(report):
+    """Those that it lists; of format 3 those that show its findings."""
+    if report["format"] not in (1, 2, 3):
+        raise ValueError("no format of a report")
+    listed = report["findings" if report["format"] == 3 else "cycles"]
+    if not all(listed):
+        raise ValueError("a cycle without edges")
+    if report["format"] == 1:
+        return listed
+    return [[report["edges"][position] for position in cycle] for cycle in listed]
 
 
 def read_findings(path):
     try:
         with open(path, encoding="utf-8") as file:
             report = json.load(file)
-        edges = report.get("edges")
-        listed = report["findings" if report.get("format") == 3 else "cycles"]
-        cycles = [[edges[position] for position in cycle] if edges is not None else cycle for cycle in listed]
         findings = {}
-        for cycle in cycles:
+        for cycle in cycles_of(report):
             key = frozenset(map(pair_of, cycle))
             findings.setdefault(key, Finding(key)).add(cycle)
     except OSError as error:

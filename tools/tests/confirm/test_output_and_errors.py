@@ -50,6 +50,24 @@ def test_a_report_of_findings(predict):
     assert "main.1:one_way holds a since " in out and "main.2:other_way holds b since " in out, out
 
 
+def test_numbers_are_those_of_the_viewer(predict):
+    """There a lock stands in the place of a location that says nothing: the two cycles on a and b, and on c and d, are two findings."""
+    with open(predict("opposite")) as file:
+        report = json.load(file)
+    nowhere = [{**edge, "held_at": "?", "wanted_at": "?"} for edge in report["edges"]]
+    others = [{**edge, "held": edge["held"] * 2, "wanted": edge["wanted"] * 2} for edge in nowhere]
+    others = [{**edge, "guards": [edge["held"]]} for edge in others]
+    report.update(edges=nowhere + others + report["edges"], cycles=[[0, 1], [2, 3], [4, 5]], trim=None)
+    with open("three.json", "w") as file:
+        json.dump(report, file)
+    shown = subprocess.run([VIEW, "three.json"], stdout=subprocess.PIPE).stdout.decode()
+    assert "finding 3: 1 cycle in 1 report\n  main.1:one_way holds a since cycles.c:42" in shown, shown
+    for number in ("1", "3"):
+        said = run(["--tries", "1", "--finding", number, "-o", number, "three.json", "--", "true"])[2]
+        marked = subprocess.run([VIEW, "--confirmed", number, "three.json"], stdout=subprocess.PIPE).stdout.decode()
+        assert "aren't here" not in marked and ("came to cycles.c:42" in said) == (number == "3"), said + marked
+
+
 def test_program_has_the_variables_of_who_asked(predict):
     """Also those whose names a script may use for itself."""
     words = [CONFIRM, "--tries", "1", predict("opposite"), "--", "sh", "-c", "echo $here $python >> variables.txt"]
@@ -64,6 +82,8 @@ def test_errors(predict):
     report = predict("opposite")
     with open("no-report.json", "w") as file:
         file.write('{"cycles": [[0, 1]]}')
+    with open("no-edges.json", "w") as file:
+        file.write('{"format": 1, "cycles": [[]]}')
     with open("deep.json", "w") as file:
         file.write("[" * 100_000)
     for arguments, text in (
@@ -74,6 +94,7 @@ def test_errors(predict):
         (["--seconds", "1" * 5000, report, "--", "true"], "--seconds takes a number"),
         (["missing.json", "--", "true"], "missing.json"),
         (["no-report.json", "--", "true"], "not a report"),
+        (["no-edges.json", "--", "true"], "not a report"),
         (["deep.json", "--", "true"], "not a report"),
         (["--finding", "2", report, "--", "true"], "1 findings"),
         ([report, "--", "./no-such-program"], "no-such-program"),
