@@ -198,10 +198,11 @@ def test_options_may_stand_between_reports():
     assert heads(view("1.json", "--text", "2.json")[1])[1] == "1 finding, 2 cycles in 2 reports"
 
 
-def test_a_full_disk_is_status_2():
+@pytest.mark.parametrize("word", ["r.json", "--help", "--version"])
+def test_a_full_disk_is_status_2(word):
     write("r.json", EXAMPLE)
     with open("/dev/full", "wb") as full:
-        command = [sys.executable, str(TOOL), "r.json"]
+        command = [sys.executable, str(TOOL), word]
         done = subprocess.run(command, stdout=full, stderr=subprocess.PIPE)
     errors = b"goodlock-view: standard output: can't be written: No space left on device\n"
     assert (done.returncode, done.stderr) == (2, errors)
@@ -216,6 +217,7 @@ def test_an_error_that_nobody_hears_is_status_2(stream):
 def test_closed_streams_are_status_2():
     write("r.json", EXAMPLE)
     for arguments, words in (("r.json >&-", "standard output: can't be written: it is closed"),
+                             ("--help >&-", "standard output: can't be written: it is closed"),
                              ("- <&-", "standard input: can't be read: it is closed")):  # fmt: skip
         done = subprocess.run(f'"{sys.executable}" "{TOOL}" {arguments}', shell=True, stderr=subprocess.PIPE)
         assert (done.returncode, done.stderr.decode()) == (2, f"goodlock-view: {words}\n")

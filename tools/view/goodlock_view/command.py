@@ -36,6 +36,9 @@ class _Parser(argparse.ArgumentParser):
     def error(self, message: str) -> NoReturn:
         raise Refusal(f"{spell(os.fsencode(message))} (--help tells the usage)")
 
+    def _print_message(self, message: str, file: Any = None) -> None:
+        write_text(message)
+
 
 def _whole_number(text: str) -> int:
     if not re.fullmatch(r"[0-9]{1,9}", text):
