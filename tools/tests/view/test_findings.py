@@ -1,7 +1,9 @@
 """Which cycles are one finding, and how findings are told in the terminal."""
 
+import errno
 import hashlib
 import json
+import os
 
 from viewing import (
     EXAMPLE,
@@ -91,6 +93,20 @@ def test_a_folder_is_all_reports_below_it():
     write("night/run.std", "not a report")
     assert view("night") == view("night/3.json", "night/a/1.json", "night/b/2.json")
     assert heads(view("night")[1])[1] == "3 findings, 3 cycles in 3 reports"
+
+
+def test_a_folder_that_cannot_be_read_is_told(monkeypatch):
+    """Its findings would be missing. Root reads all, so a call that fails stands in for the real one."""
+    for path in ("night/a.json", "night/closed/b.json"):
+        write(path, EXAMPLE)
+
+    def scandir(path, known=os.scandir):
+        if path.endswith("closed"):
+            raise PermissionError(errno.EACCES, os.strerror(errno.EACCES), path)
+        return known(path)
+
+    monkeypatch.setattr(os, "scandir", scandir)
+    assert view("night") == (2, "", "goodlock-view: night/closed: can't be read: Permission denied\n")
 
 
 def test_words_behind_two_dashes_are_reports():

@@ -3,6 +3,7 @@
 import os
 import sys
 import tempfile
+from typing import NoReturn
 
 from . import TOOL
 from .names import file_name
@@ -13,11 +14,16 @@ def reports_of(path: str) -> list[str]:
     """The reports that a word of the command line names: itself, or all those below a folder."""
     if not os.path.isdir(path):
         return [path]
-    found = [os.path.join(folder, name) for folder, _, names in os.walk(path) for name in names]
+    found = [os.path.join(folder, name) for folder, _, names in os.walk(path, onerror=_unread) for name in names]
     reports = sorted(name for name in found if name.endswith(".json"))
     if not reports:
         raise Refusal(f"{file_name(path)}: no report (*.json) is in this folder")
     return reports
+
+
+def _unread(error: OSError) -> NoReturn:
+    """Of a folder whose reports would be missing."""
+    raise Refusal(f"{file_name(error.filename)}: can't be read: {error.strerror}")
 
 
 def bytes_of(path: str, name: str) -> bytes:
