@@ -59,6 +59,7 @@ from symbols import demangled  # noqa: E402
 
 STATUS_NOT_SEEN, STATUS_DEADLOCKED, STATUS_ERROR = 0, 1, 125
 EDGE_LIMIT = 16
+ENDING = (signal.SIGINT, signal.SIGTERM, signal.SIGHUP)
 # How long a thread is held back, by try; the last one for all further tries.
 HOLDS = (300, 300, 1000, 1000, 3000)
 # Seconds between two looks at what the threads wait for. A cycle counts if it is the same in two of them.
@@ -303,10 +304,12 @@ class Run:
         self.cycle = []
         self.in_time = True
         self.limit = time.monotonic() + settings.seconds
-        self.program = started(settings.command, environment)
+        self.program = None
         try:
+            self.program = started(settings.command, environment)
             self.watch()
-        finally:
+            self.kill()
+        finally:  # also what a signal ends, of which there is one at most
             self.kill()
 
     def members(self):
@@ -339,7 +342,8 @@ class Run:
             self.family.reap()
             time.sleep(0.01)
         self.family.reap()
-        self.program.returncode = 0  # it was waited for
+        if self.program:
+            self.program.returncode = 0  # it was waited for
 
     def processes(self):
         processes, _ = read_processes(self.recording)
@@ -531,6 +535,13 @@ def confirm(settings, finding):
             output.remove()
 
 
+def end_once(*_):
+    """The first signal ends this; while it ends what it started, further ones are passed over."""
+    for number in ENDING:
+        signal.signal(number, signal.SIG_IGN)
+    raise KeyboardInterrupt
+
+
 def main():
     fill_closed_descriptors()
     forget_locale()
@@ -543,9 +554,9 @@ def main():
         raise Failed("a cycle of more than %d edges" % EDGE_LIMIT)
     if not adopt_orphans():
         raise Failed("Python's ctypes is missing")
-    for number in (signal.SIGTERM, signal.SIGHUP):
+    for number in ENDING:
         if signal.getsignal(number) != signal.SIG_IGN:  # as under nohup
-            signal.signal(number, lambda *_: sys.exit(STATUS_ERROR))
+            signal.signal(number, end_once)
     return confirm(settings, finding)
 
 

@@ -202,6 +202,18 @@ def test_hangup_that_is_ignored(predict, folder):
     assert running.returncode == NOT_SEEN and out == b"not seen in 1 try, 2 runs ended after 4 seconds\n", out.decode()
 
 
+def test_a_signal_that_comes_again(predict, folder):
+    """What was started is ended all the same."""
+    words = [CONFIRM, predict("opposite"), "--", "sleep", "60"]
+    running = subprocess.Popen(words, stderr=subprocess.PIPE)
+    wait_for(lambda: "sleep" in map(name_of, processes_in(folder)), "the program to run")
+    while running.poll() is None:
+        running.send_signal(signal.SIGTERM)
+    said = running.communicate(timeout=LIMIT)[1]
+    assert running.returncode == ERROR and said.endswith(b"goodlock-confirm: interrupted\n"), (running.returncode, said)
+    check_that_nothing_is_left(folder)
+
+
 def test_script_that_does_not_say_who_runs_it(predict):
     """It is one for sh, as where a shell is asked for it."""
     with open("script", "w") as file:
