@@ -69,19 +69,20 @@ def test_lost_events_are_not_settled():
 # goodlock-record, where the library is refused memory for each report.
 REFUSES = """
 import sys
-sys.path.insert(0, %r)
+sys.path.insert(0, sys.argv.pop(1))
 import launch, live
 live.answered_reports = lambda *asked: iter([live.Report(1, 0, False, b"")])
 sys.exit(launch.main(launch.read_own_arguments, launch.Recorder()))
-""" % os.path.join(TOOLS, "record")
+"""
 
 
 def test_report_that_there_is_no_memory_for_is_made_later():
-    command = [sys.executable, "-c", REFUSES, "--live", "-o", "r.json", "./live", "killed"]
+    recorder = os.path.join(TOOLS, "record")
+    command = [sys.executable, "-c", REFUSES, recorder, "--live", "-o", "r.json", "./live", "killed"]
     done = subprocess.run(command, stderr=subprocess.PIPE, timeout=LIMIT)
-    directory = raw_directory("r.json")
-    told = "r.json: no report: there wasn't enough memory (what was recorded is kept in %s)\n" % os.path.abspath(directory)
-    assert done.returncode == REFUSED and told in done.stderr.decode(), done.stderr.decode()
+    directory, said = raw_directory("r.json"), done.stderr.decode()
+    told = "r.json: no report: there wasn't enough memory (what was recorded is kept in %s)\n"
+    assert done.returncode == REFUSED and told % os.path.abspath(directory) in said, said
     assert not os.path.exists("r.json"), "there is a report"
     said = report_later(directory)
     assert cycles_in(read_report()) == ORDERS, said
