@@ -345,6 +345,11 @@ class Run:
         if self.program:
             self.program.returncode = 0  # it was waited for
 
+    def blind(self, processes):
+        """Those in which there was no room for what threads wait for: a cycle there isn't seen."""
+        paths = {key: os.path.join(self.recording.directory, "%d.%d.waits" % key) for key in processes}
+        return [key for key, path in paths.items() if not (os.path.exists(path) and os.path.getsize(path))]
+
     def processes(self):
         processes, _ = read_processes(self.recording)
         addresses = [address for wait in self.cycle for address in wait.stacks if address]
@@ -453,6 +458,8 @@ def outcome_of(settings, finding, directory, preload):
                 "nothing was recorded: is the program statically linked, set-user-id, with file capabilities or of another "
                 "machine type?"
             )
+        if len(run.blind(processes)) == len(processes):
+            raise Failed("%s: no room for what the threads wait for" % directory)
         if run.cycle:
             deadlock = Deadlock(run, processes, places)
             if deadlock.is_true() and deadlock.is_of(finding):

@@ -130,6 +130,17 @@ def test_output_on_a_full_disk(predict):
         assert os.listdir("small") == []
 
 
+def test_a_small_disk_for_temporary_files(predict, monkeypatch):
+    """The events have room there, and what the threads wait for has none: that isn't a cycle that wasn't seen."""
+    with SmallDisk("1m") as has_disk:
+        if not has_disk:
+            pytest.skip(NO_DISK)
+        monkeypatch.setenv("TMPDIR", os.path.abspath("small"))
+        status, out, said = run(["--tries", "1", predict("opposite"), "--", "./cycles", "opposite"])
+        assert status == ERROR and out == "" and said.endswith(": no room for what the threads wait for\n"), out + said
+        assert os.listdir("small") == []
+
+
 def test_output_that_came_meanwhile(predict):
     """Another one's file is kept."""
     words = [
