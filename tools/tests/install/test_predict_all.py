@@ -241,6 +241,12 @@ def states(names):
     return [file.read_text().rpartition(")")[2].split()[0] if file.exists() else "Z" for file in files]
 
 
+def default_signals():
+    """Whoever runs the tests in the background ignores some, and a shell can't trap what is ignored where it starts."""
+    for number in (signal.SIGHUP, signal.SIGINT, signal.SIGQUIT, signal.SIGTERM, signal.SIGTSTP):
+        signal.signal(number, signal.SIG_DFL)
+
+
 def predicting(path, then):
     """Predicts three traces, two at a time, by a program that writes half a report, and then does this; and the files of the numbers
     of the first two."""
@@ -250,7 +256,7 @@ def predicting(path, then):
     os.chmod("stand-in", 0o755)
     words = [path / "goodlock-predict-all", "-j", "2", "--program", "./stand-in", "a.std", "b.std", "c.std"]
     with open("errors", "w") as errors:
-        process = subprocess.Popen(words, stderr=errors)
+        process = subprocess.Popen(words, stderr=errors, preexec_fn=default_signals)
     eventually(lambda: len(list(pathlib.Path().glob("running.*"))) == 2)
     return process, list(pathlib.Path().glob("running.*"))
 

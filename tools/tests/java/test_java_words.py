@@ -62,6 +62,7 @@ def test_folders_that_no_agent_can_be_in(name):
     assert said_by(recorder) == (REFUSED, told)
 
 
+@pytest.mark.usefixtures("classes")
 def test_folder_where_nothing_can_be_made():
     recorder = tools_in("full")
     shutil.rmtree("full/out", ignore_errors=True)
