@@ -1,5 +1,5 @@
 //! The stream of accepted notes, with a log for each thread.
-ghost use Rattle.std.specs.Prelude.{◌≡◌, ◌≢◌, ◌↔◌, ℕ, ◌<◌, ◌≤◌, Some, None, Err, List, [], ◌∷◌, ◌++◌, IsTrue, IsOk, IfOk, IfErr, IfSome, IfNone, OnOk, OnErr, ◌==◌, if◌then◌else◌};
+ghost use Rattle.std.specs.Prelude.{◌≡◌, ◌≢◌, ◌↔◌, ℕ, ◌<◌, ◌≤◌, Some, None, Err, List, [], ◌∷◌, ◌++◌, IsTrue, IsOk, IfOk, IfErr, IfSome, IfNone, OnOk, OnErr, ◌==◌, if◌then◌else◌, vec_capacity, vec_len};
 ghost use Rattle.gl_intake.specs.Keeping.{AreLogs, AreCursors};
 ghost use Rattle.gl_intake.specs.declared.notes.Refused.TheVariants.{WrongCount, Memory};
 ghost use Rattle.gl_event.specs.declared.notes.Body.TheVariants.{Happened, Ended};
@@ -154,6 +154,19 @@ fn fresh_cursors(alloc: Global, limits: &Limits) -> Result<Vec<ThreadCursor>, Me
         })?;
     }
     Ok(cursors)
+}
+
+// Appends an element to each of two lists that have room for it. Each is written where it belongs, which a call that may be refused
+// memory doesn't do.
+#[inline(always)]
+fn keep_both<X: Copy, Y: Copy>(xs: &mut Vec<X>, ys: &mut Vec<Y>, x: X, y: Y)
+    requires first_room { vec_len xs.old < vec_capacity xs.old }
+    requires second_room { vec_len ys.old < vec_capacity ys.old }
+    ensures first { xs.new.items ≡ xs.old.items ++ x ∷ [] }
+    ensures second { ys.new.items ≡ ys.old.items ++ y ∷ [] }
+{
+    xs.push_reserved(x);
+    ys.push_reserved(y);
 }
 
 impl Intake {
@@ -331,11 +344,8 @@ impl Intake {
     {
         let index = note.thread.number() as usize;
         take_next(&mut self.cursors[index], note, event)?;
-        match append_both(&mut self.logs[index], &mut self.stream, *event, *note) {
-            Ok(()) => Ok(Accepted::Event { place: note.place }),
-            // there is room for it
-            Err(Memory) => unreachable!(),
-        }
+        keep_both(&mut self.logs[index], &mut self.stream, *event, *note);
+        Ok(Accepted::Event { place: note.place })
     }
 
     // Why the note may not come next.

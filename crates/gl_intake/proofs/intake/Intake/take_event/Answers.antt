@@ -26,9 +26,9 @@ invariant_of-self-2 c =
     let none = sym (of_known c.self.inside.limits c.self.inside.stream.items c.args.note.now c.self.inside.cursors.items c.self.invariant.cursors_are known c.index_mut.result.now cursor_here
     None (λ b es tracks. sym (c.in_ok-take_next.ensures.next b es tracks))) in
     let next = next_of_none c.self.inside.limits c.self.inside.stream.items c.args.note.now none in
-    rw (c.in-Ok.ensures.second, c.number-index.ensures)
+    rw (c.keep_both.ensures.second, c.number-index.ensures)
     (kept_event c.self.inside.limits c.self.inside.stream.items c.self.inside.logs.items c.self.inside.cursors.items c.self.invariant c.args.note.now next
-    c.args.event.now c.requires.told c.index_mut-2.result.now c.append_both.new.xs log_here c.in-Ok.ensures.first
+    c.args.event.now c.requires.told c.index_mut-2.result.now c.keep_both.new.xs log_here c.keep_both.ensures.first
     c.index_mut.result.now c.take_next.new.past cursor_here c.take_next.ensures.ended c.in_ok-take_next.ensures.tracks)
 
 pub returns-clause-accepted : goal.returns-clause-accepted
