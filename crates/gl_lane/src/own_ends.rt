@@ -31,9 +31,12 @@ impl Protocol<Body> for Counted {
 pub struct OwnLaneIn {
     producer: Producer<Body, Global, Counted>,
     thread: ThreadId,
+    // for how many more notes there is certainly room: the ring would have to reckon it, for each note
+    room: usize,
 }
 
 impl Model for OwnLaneIn {
+    ghost use Rattle.std.specs.Prelude.{◌≡◌};
     ghost use Rattle.rtrb.specs.Ring.{sent, known_free};
     ghost use Rattle.gl_lane.specs.OwnLanes.{OwnPushing, own_lane_of};
     ghost use Rattle.gl_lane.specs.bodies.OwnRuns.{notes_after};
@@ -43,8 +46,10 @@ impl Model for OwnLaneIn {
     ghost view = { λ l. record {
       lane = own_lane_of l.thread l.producer.end;
       pushed = notes_after l.thread 0 (sent l.producer);
-      room = known_free l.producer;
+      room = l.room;
     } };
+
+    ghost invariant = { λ l. l.room ≡ known_free l.producer };
 }
 
 /// The collector's end of a thread's own lane.
@@ -123,7 +128,11 @@ pub fn own_lane(
         capacity as usize,
     )?;
     Ok((
-        OwnLaneIn { producer, thread },
+        OwnLaneIn {
+            producer,
+            thread,
+            room: capacity as usize,
+        },
         OwnLaneOut::new(thread, consumer),
     ))
 }
@@ -155,8 +164,14 @@ impl OwnLaneIn {
         ensures succeeds { 0 < self.old.room → IsOk result }
     {
         match self.producer.push(note.body) {
-            Ok(()) => Ok(()),
-            Err(PushError::Full(body)) => Err(Note { body, ..note }),
+            Ok(()) => {
+                self.room = self.producer.cached_slots();
+                Ok(())
+            }
+            Err(PushError::Full(body)) => {
+                self.room = 0;
+                Err(Note { body, ..note })
+            }
         }
     }
 
@@ -170,6 +185,7 @@ impl OwnLaneIn {
         ensures pushed { self.new.pushed ≡ self.old.pushed ++ note ∷ [] }
         ensures room { self.old.room ≡ self.new.room + 1 }
     {
+        self.room -= 1;
         match note.body {
             Body::Happened(event) => self.producer.push_reserved(Body::Happened(event)),
             Body::Ended { count } => self.producer.push_reserved(Body::Ended { count }),
@@ -182,7 +198,7 @@ impl OwnLaneIn {
     pub fn has_room(&self) -> bool
         ensures { IsTrue result ↔ (0 < self.now.room) }
     {
-        self.producer.cached_slots() > 0
+        self.room > 0
     }
 
     /// Whether the collector's end was dropped, so that a lane that is full stays so. It takes one step, and
@@ -192,7 +208,9 @@ impl OwnLaneIn {
         ensures pushed { self.new.pushed ≡ self.old.pushed }
         ensures room { self.old.room ≤ self.new.room }
     {
-        self.producer.is_abandoned()
+        let is_abandoned = self.producer.is_abandoned();
+        self.room = self.producer.cached_slots();
+        is_abandoned
     }
 
     /// Ends the pushing, and answers what stands for all notes that were pushed; `None` where the
@@ -201,7 +219,11 @@ impl OwnLaneIn {
         ensures lane { IfSome result (λ finished. finished.lane ≡ self.lane) }
         ensures pushed { IfSome result (λ finished. finished.pushed ≡ self.pushed) }
     {
-        let OwnLaneIn { producer, thread } = self;
+        let OwnLaneIn {
+            producer,
+            thread,
+            room: _,
+        } = self;
         let finished = producer.finish()?;
         Some(OwnFinished { finished, thread })
     }

@@ -1,4 +1,5 @@
 use Rattle.std.proofs.Common.{arith, ap, ◌++◌, ◌∷◌, [], subst, sym, ◌∙◌}
+use Rattle.std.specs.Prelude.{ℕ, ◌<◌}
 use Rattle.rtrb.specs.Ring.{sent}
 use Rattle.gl_event.specs.declared.notes.Body.TheVariants.{Happened}
 use Rattle.gl_lane.specs.OwnLanes.{own_lane_of}
@@ -8,11 +9,11 @@ use Rattle.gl_lane.proofs.own_ends.OwnLaneIn.push_known.Goals as goal
 
 pub push_reserved-requires : goal.push_reserved-requires
 push_reserved-requires c =
-    (rw (← c.self.view_is) at c.requires.known, subst (MayCome (sent c.self.inside.producer)) (c.in-Happened.is ∙ ap Happened (sym c.in-Happened.event-is)) (may_come _ _ c.args.note (omega (arith, c.well_formed)) (rw (← c.self.view_is) at c.requires.next)))
+    (subst (λ (free : ℕ). 0 < free) c.self.invariant (rw (← c.self.view_is) at c.requires.known), subst (MayCome (sent c.self.inside.producer)) (c.in-Happened.is ∙ ap Happened (sym c.in-Happened.event-is)) (may_come _ _ c.args.note (omega (arith, c.well_formed)) (rw (← c.self.view_is) at c.requires.next)))
 
 pub push_reserved-requires-in-Ended : goal.push_reserved-requires-in-Ended
 push_reserved-requires-in-Ended c =
-    (rw (← c.self.view_is) at c.requires.known, subst (MayCome (sent c.self.inside.producer)) c.in-Ended.is (may_come _ _ c.args.note (omega (arith, c.well_formed)) (rw (← c.self.view_is) at c.requires.next)))
+    (subst (λ (free : ℕ). 0 < free) c.self.invariant (rw (← c.self.view_is) at c.requires.known), subst (MayCome (sent c.self.inside.producer)) c.in-Ended.is (may_come _ _ c.args.note (omega (arith, c.well_formed)) (rw (← c.self.view_is) at c.requires.next)))
 
 pub returns-in-Happened-clause-pushed : goal.returns-in-Happened-clause-pushed
 returns-in-Happened-clause-pushed c =
