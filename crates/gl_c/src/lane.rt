@@ -91,6 +91,15 @@ impl Lane {
 
 impl Drop for Lane {
     fn drop(self) {
-        drop(self.into_box());
+        if let Some(state) = self.into_box() {
+            let_go(state);
+        }
     }
+}
+
+// Lets go of what a handle was of. It isn't inlined, so that a call that puts back what it took is short: there is nothing to let
+// go of then.
+#[inline(never)]
+fn let_go(state: Box<LaneState>) {
+    drop(state);
 }

@@ -1,6 +1,7 @@
 //! What a lane's handle is of.
-ghost use Rattle.std.specs.Prelude.{◌≡◌};
-ghost use Rattle.gl_c.specs.Lanes.{IsRecordOn, IsRecordOfState, IsClose};
+ghost use Rattle.std.specs.Prelude.{◌≡◌, ◌<◌};
+ghost use Rattle.gl_c.specs.Lanes.{IsRecordOn, IsRecordOfKind, IsRecordOfState, IsClose};
+ghost use Rattle.gl_c.specs.Numbered.{event_of_kind};
 
 use crate::codes::{FULL, MISUSE, OK, RANGE, UNCONFIRMED};
 use crate::numbered::{event_of, refusal_code};
@@ -18,15 +19,35 @@ pub enum LaneState {
     Lost,
 }
 
-// Records the event, and tells the place that it has in the thread's list, or would have had.
-fn record_event(recorder: &mut Recorder, event: Event, at: &mut u32) -> u32
-    ensures { IsRecordOn recorder.old event result at.new recorder.new }
+// Records the event of this kind, where the lane has to be asked whether there is room for it. It isn't inlined, and is given numbers:
+// so an event for which there certainly is room stays in registers.
+#[inline(never)]
+fn record_looking(recorder: &mut Recorder, kind: u32, operand: u32, place: u32, at: &mut u32) -> u32
+    ensures { IsRecordOfKind recorder.old (event_of_kind kind operand place) at.old result at.new
+        recorder.new }
 {
+    let Some(event) = event_of(kind, operand, place) else {
+        return RANGE;
+    };
     *at = recorder.taken();
     match recorder.record(event) {
         Ok(_) => OK,
         Err(RecordFault::Full(_)) => FULL,
         Err(RecordFault::Refused(why)) => refusal_code(why),
+    }
+}
+
+// Records the event, for which there certainly is room, and tells the place that it has in the thread's list, or would
+// have had.
+#[inline(always)]
+fn record_known(recorder: &mut Recorder, event: Event, at: &mut u32) -> u32
+    requires { 0 < recorder.old.room }
+    ensures { IsRecordOn recorder.old event result at.new recorder.new }
+{
+    *at = recorder.taken();
+    match recorder.record_known(event) {
+        Ok(_) => OK,
+        Err(why) => refusal_code(why),
     }
 }
 
@@ -38,10 +59,13 @@ impl LaneState {
         let LaneState::Recording(recorder) = self else {
             return MISUSE;
         };
+        if !recorder.has_room() {
+            return record_looking(recorder, kind, operand, place, at);
+        }
         let Some(event) = event_of(kind, operand, place) else {
             return RANGE;
         };
-        record_event(recorder, event, at)
+        record_known(recorder, event, at)
     }
 
     /// Ends the recording, and what is answered. A lane that is full and stays so, since nobody is left to pull,

@@ -1,12 +1,31 @@
 //! Events and their refusals by the numbers that C has for them.
-ghost use Rattle.std.specs.Prelude.{◌≡◌, ◌≤◌};
+ghost use Rattle.std.specs.Prelude.{◌≡◌, ◌<◌, Some};
 ghost use Rattle.gl_c.specs.Numbered.{event_of_kind, refusal_code};
+ghost use Rattle.gl_c.specs.declared.codes.TheConstants.{FORK};
 
 use crate::codes::{
-    ACQUIRE, ACQUIRE_SHARED, DEPTH_FULL, EVENTS_FULL, FORK, HELD_FULL, JOIN, NO_SUCH_THREAD,
-    NOT_HELD, ON_ITSELF, RELEASE, RELEASE_SHARED, TRY_ACQUIRE, TRY_ACQUIRE_SHARED, UPGRADE,
+    DEPTH_FULL, EVENTS_FULL, FORK, HELD_FULL, JOIN, NO_SUCH_THREAD, NOT_HELD, ON_ITSELF, UPGRADE,
 };
 use gl_event::{Event, LocId, LockId, LockMode, Refusal, ThreadId};
+
+// The event of this kind, one with a lock, at this place. The kinds go by two: an exclusive one and behind it its shared form.
+#[inline(always)]
+fn lock_event_of(kind: u32, lock: LockId, loc: LocId) -> Event
+    requires { kind < FORK }
+    ensures { event_of_kind kind lock loc ≡ Some result }
+{
+    let mode = if kind % 2 == 0 {
+        LockMode::Exclusive
+    } else {
+        LockMode::Shared
+    };
+    match kind / 2 {
+        0 => Event::Acquire { lock, mode, loc },
+        1 => Event::Release { lock, mode, loc },
+        2 => Event::TryAcquire { lock, mode, loc },
+        _ => unreachable!(),
+    }
+}
 
 /// The event of this kind, on this lock or thread, at this place.
 pub fn event_of(kind: u32, operand: u32, place: u32) -> Option<Event>
@@ -17,37 +36,10 @@ pub fn event_of(kind: u32, operand: u32, place: u32) -> Option<Event>
         ThreadId::new(operand),
         LocId::new(place),
     );
+    if kind < FORK {
+        return Some(lock_event_of(kind, lock, loc));
+    }
     match kind {
-        ACQUIRE => Some(Event::Acquire {
-            lock,
-            mode: LockMode::Exclusive,
-            loc,
-        }),
-        ACQUIRE_SHARED => Some(Event::Acquire {
-            lock,
-            mode: LockMode::Shared,
-            loc,
-        }),
-        RELEASE => Some(Event::Release {
-            lock,
-            mode: LockMode::Exclusive,
-            loc,
-        }),
-        RELEASE_SHARED => Some(Event::Release {
-            lock,
-            mode: LockMode::Shared,
-            loc,
-        }),
-        TRY_ACQUIRE => Some(Event::TryAcquire {
-            lock,
-            mode: LockMode::Exclusive,
-            loc,
-        }),
-        TRY_ACQUIRE_SHARED => Some(Event::TryAcquire {
-            lock,
-            mode: LockMode::Shared,
-            loc,
-        }),
         FORK => Some(Event::Fork { thread, loc }),
         JOIN => Some(Event::Join { thread, loc }),
         _ => None,

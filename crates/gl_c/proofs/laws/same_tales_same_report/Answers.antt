@@ -1,10 +1,8 @@
 use Rattle.std.proofs.Common.{◌≡◌, Some, sym, ap, subst, ◌∙◌}
 use Rattle.gl_findings.specs.Reports.{IsReportOf}
 use Rattle.gl_findings.proofs.ListingsAgree.{listings_agree}
-use Rattle.gl_std.specs.Names.{NameLists}
 use Rattle.gl_renumbering.specs.Tales.{lists_by_mention}
 use Rattle.gl_renumbering.proofs.Alike.{same_lists}
-use Rattle.gl_c.specs.declared.made_state.MadeState.{MadeState}
 use Rattle.gl_c.proofs.laws.same_tales_same_report.Goals as goal
 
 pub returns : goal.returns
