@@ -168,10 +168,7 @@ impl OwnLaneIn {
                 self.room = self.producer.cached_slots();
                 Ok(())
             }
-            Err(PushError::Full(body)) => {
-                self.room = 0;
-                Err(Note { body, ..note })
-            }
+            Err(PushError::Full(body)) => Err(Note { body, ..note }),
         }
     }
 
