@@ -1,6 +1,7 @@
 """Known findings: what stays known and what is new."""
 
 import hashlib
+import os
 
 import pytest
 from viewing import EXAMPLE, HOSTILE, OTHER, heads, hostile_report, pair, read, report, text_of_page, view, write
@@ -55,6 +56,13 @@ def test_the_known_file_can_be_written_over_itself():
     write("known", '[["9","9"]]\n')
     assert view("r.json", "--known", "known", "--write-known", "known")[0] == 1
     assert view("r.json", "--known", "known")[0] == 0
+
+
+def test_known_findings_may_come_on_standard_input():
+    """An output of that name is a file all the same."""
+    write("r.json", EXAMPLE)
+    assert view("r.json", "--known", "-", "-o", "-", stdin=b'[["1","2"],["5","6"]]\n') == (0, "", "")
+    assert sorted(os.listdir()) == ["-", "r.json"]
 
 
 KNOWN_FAULTS = [

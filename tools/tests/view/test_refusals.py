@@ -170,6 +170,8 @@ def usage_cases():
     yield ["r.json", "--source", "none"], "goodlock-view: none: not a directory"
     yield ["r.json", "--known", "none"], "goodlock-view: none: can't be read: No such file or directory"
     yield ["-", "-"], "goodlock-view: standard input can't be read twice"
+    yield ["-", "--known", "-"], "goodlock-view: standard input can't be read twice"
+    yield ["r.json", "--known", "-", "--confirmed", "-"], "goodlock-view: standard input can't be read twice"
     yield ["r.json", "-o", "r.json"], "would be written over another file of this command"
     yield ["r.json", "-o", "./folder/../r.json"], "would be written over another file of this command"
     yield ["r.json", "-o", "x", "--dot", "x"], "would be written over another file of this command"

@@ -106,15 +106,16 @@ def _outputs_of(options: argparse.Namespace) -> dict[str, str]:
 def _check_paths(options: argparse.Namespace) -> None:
     if options.source is not None and not os.path.isdir(options.source):
         raise Refusal(f"{file_name(options.source)}: not a directory")
+    known = [] if options.known is None else [options.known]
     read = options.reports + options.confirmed
-    if read.count("-") > 1:
+    if (read + known).count("-") > 1:
         raise Refusal("standard input can't be read twice")
     inputs = {os.path.realpath(path) for path in read if path != "-"}
     outputs = _outputs_of(options)
     for key, path in outputs.items():
         others = inputs | {other for k, other in outputs.items() if k != key}
-        if options.known is not None and key != "known":
-            others.add(os.path.realpath(options.known))
+        if key != "known":
+            others.update(os.path.realpath(path) for path in known if path != "-")
         if path in others:
             raise Refusal(f"{file_name(path)}: would be written over another file of this command")
         if os.path.lexists(path) and not os.path.isfile(path):
