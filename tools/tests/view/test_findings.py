@@ -4,7 +4,9 @@ import errno
 import hashlib
 import json
 import os
+import subprocess
 
+import pytest
 from viewing import (
     EXAMPLE,
     HOSTILE,
@@ -107,6 +109,32 @@ def test_a_folder_that_cannot_be_read_is_told(monkeypatch):
 
     monkeypatch.setattr(os, "scandir", scandir)
     assert view("night") == (2, "", "goodlock-view: night/closed: can't be read: Permission denied\n")
+
+
+@pytest.mark.parametrize("pipe", ["night/b.json", "elsewhere"])
+def test_a_pipe_in_a_folder_is_told_and_not_waited_for(pipe):
+    """Nor one that a link leads to. One that is named is read."""
+    write("night/a.json", EXAMPLE)
+    os.mkfifo(pipe)
+    if pipe == "elsewhere":
+        os.symlink("../elsewhere", "night/b.json")
+    writer = subprocess.Popen(["cp", "night/a.json", "night/b.json"])
+    try:
+        assert view("night") == (2, "", "goodlock-view: night/b.json: can't be read: not a regular file\n")
+        assert heads(view("night/a.json", "night/b.json")[1])[1] == "1 finding, 2 cycles in 2 reports"
+    finally:
+        writer.kill()
+        writer.wait()
+
+
+def test_links_in_a_folder_are_read():
+    """One to nothing is told."""
+    write("disk/a.json", EXAMPLE)
+    write("night/b.json", EXAMPLE)
+    os.symlink("../disk/a.json", "night/c.json")
+    assert heads(view("night")[1])[1] == "1 finding, 2 cycles in 2 reports"
+    os.unlink("disk/a.json")
+    assert view("night") == (2, "", "goodlock-view: night/c.json: can't be read: No such file or directory\n")
 
 
 def test_words_behind_two_dashes_are_reports():

@@ -1,6 +1,7 @@
 """Reading inputs whole, and writing outputs whole or not at all."""
 
 import os
+import stat
 import sys
 import tempfile
 from typing import NoReturn
@@ -18,12 +19,24 @@ def reports_of(path: str) -> list[str]:
     reports = sorted(name for name in found if name.endswith(".json"))
     if not reports:
         raise Refusal(f"{file_name(path)}: no report (*.json) is in this folder")
+    for report in reports:
+        _check_regular(report)
     return reports
 
 
 def _unread(error: OSError) -> NoReturn:
     """Of a folder whose reports would be missing."""
     raise Refusal(f"{file_name(error.filename)}: can't be read: {error.strerror}")
+
+
+def _check_regular(path: str) -> None:
+    """Of a file that nobody named: a pipe would be waited for, and what a device gives may have no end."""
+    try:
+        is_regular = stat.S_ISREG(os.stat(path).st_mode)
+    except OSError:
+        return  # why is told when it is opened
+    if not is_regular:
+        raise Refusal(f"{file_name(path)}: can't be read: not a regular file")
 
 
 def bytes_of(path: str, name: str) -> bytes:
