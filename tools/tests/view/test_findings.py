@@ -137,6 +137,11 @@ def test_links_in_a_folder_are_read():
     assert view("night") == (2, "", "goodlock-view: night/c.json: can't be read: No such file or directory\n")
 
 
+def test_standard_input_is_no_folder_of_its_name():
+    write("-/r.json", EXAMPLE)
+    assert view("-", stdin=report().encode()) == (0, "0 findings, 0 cycles in 1 report\n", "")
+
+
 def test_words_behind_two_dashes_are_reports():
     write("-r.json", EXAMPLE)
     write("other.json", EXAMPLE)

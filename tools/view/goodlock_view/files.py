@@ -13,7 +13,7 @@ from .refusal import Refusal
 
 def reports_of(path: str) -> list[str]:
     """The reports that a word of the command line names: itself, or all those below a folder."""
-    if not os.path.isdir(path):
+    if path == "-" or not os.path.isdir(path):
         return [path]
     found = [os.path.join(folder, name) for folder, _, names in os.walk(path, onerror=_unread) for name in names]
     reports = sorted(name for name in found if name.endswith(".json"))
