@@ -83,6 +83,8 @@ def read_arguments(arguments):
     interpreter = own.get("--python")
     if "--python" in own and interpreter is None:
         raise recording.Failed("--python takes a value\n" + USAGE)
+    if interpreter == "":
+        raise recording.Failed("--python takes a name that isn't empty\n" + USAGE)
     settings = recording.read_arguments(others, __doc__, USAGE)
     if settings.convert is None:
         settings.command = with_interpreter(settings.command, interpreter)

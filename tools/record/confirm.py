@@ -117,6 +117,8 @@ def read_arguments(arguments):
         word = rest.pop(0)
         if word in ("--finding", "--tries", "--seconds", "-o") and rest:
             value = rest.pop(0)
+            if word == "-o" and value == "":
+                raise Failed("-o takes a name that isn't empty\n%s" % USAGE)
             if word == "-o":
                 settings.output = value
             else:

@@ -239,6 +239,8 @@ def read_words(arguments, explanation, usage, flags, values):
             raise Failed("unknown option %s\n%s" % (word, usage))
         if not rest:
             raise Failed("%s takes a value\n%s" % (word, usage))
+        if word in ("-o", "--convert") and rest[0] == "":
+            raise Failed("%s takes a name that isn't empty\n%s" % (word, usage))
         read_value(settings, word, rest.pop(0))
     settings.command = rest
     if not settings.command and settings.convert is None:

@@ -121,6 +121,11 @@ def test_output_in_a_folder_that_isnt_there(predict):
     assert said == "goodlock-confirm: no-folder/confirmed.json: No such file or directory; nothing was run\n", said
 
 
+def test_output_without_a_name(predict):
+    said = refuses_to_write("", predict)
+    assert said.startswith("goodlock-confirm: -o takes a name that isn't empty\nusage: "), said
+
+
 def test_output_on_a_full_disk(predict):
     with SmallDisk("32k") as has_disk:
         if not has_disk:

@@ -291,6 +291,8 @@ USAGE = [
     (["--jobs", "0", "a.std"], "--jobs takes a number from 1 on"),
     (["-j", "x", "a.std"], "--jobs takes a number from 1 on"),
     (["-o"], "-o takes a value"),
+    (["-o", "", "a.std"], "-o takes a value that isn't empty"),
+    (["--program", "", "a.std"], "--program takes a value that isn't empty"),
     (["--nonsense", "a.std"], "unknown option --nonsense (--help tells the usage)"),
 ]
 

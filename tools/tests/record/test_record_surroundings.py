@@ -45,6 +45,19 @@ def test_wrong_arguments(arguments):
     assert done.stderr != b"" and b"Traceback" not in done.stderr, done.stderr.decode()
 
 
+NAMES = [(f"goodlock-{name}", option) for name in ("record", "python", "java") for option in ("-o", "--convert")]
+
+
+@pytest.mark.parametrize("recorder, option", [*NAMES, ("goodlock-python", "--python")])
+def test_a_name_that_is_empty(recorder, option):
+    """No other one stands for it."""
+    words = [os.path.join(TOOLS, recorder), option, ""] + ["sh", "-c", "touch was-run"] * (option != "--convert")
+    done = subprocess.run(words, stderr=subprocess.PIPE)
+    said = done.stderr.decode()
+    assert done.returncode == REFUSED and said.startswith(f"{recorder}: {option} takes a name that isn't empty\n"), said
+    assert not os.path.exists("was-run"), "the program was run"
+
+
 @pytest.mark.parametrize("room, status", [(0, 0), (-1, REFUSED)])
 def test_a_folder_that_lies_very_deep(room, status, monkeypatch):
     """A recorded process keeps 2,999 bytes of a recording's path: where that is longer, nothing is run."""

@@ -176,6 +176,8 @@ def usage_cases():
     yield ["r.json", "-o", "./folder/../r.json"], "would be written over another file of this command"
     yield ["r.json", "-o", "x", "--dot", "x"], "would be written over another file of this command"
     yield ["r.json", "--known", "k", "-o", "k"], "would be written over another file of this command"
+    yield ["r.json", "-o", ""], "goodlock-view: argument -o/--html: the name is empty"
+    yield ["r.json", "--write-known", ""], "goodlock-view: argument --write-known: the name is empty"
     yield ["r.json", "-o", "folder"], "can't be written: not a regular file"
     yield ["r.json", "-o", "/dev/null"], "goodlock-view: /dev/null: can't be written: not a regular file"
     yield ["r.json", "-o", "none/p.html"], "can't be written: No such file or directory"

@@ -46,6 +46,12 @@ def _whole_number(text: str) -> int:
     return int(text)
 
 
+def _output(text: str) -> str:
+    if text == "":
+        raise argparse.ArgumentTypeError("the name is empty")
+    return text
+
+
 def _category(text: str) -> str:
     if not re.fullmatch(r"[A-Za-z0-9][A-Za-z0-9._-]{0,99}", text):
         raise argparse.ArgumentTypeError("not a word of letters, digits, dots, underscores and hyphens")
@@ -74,14 +80,14 @@ def parser() -> argparse.ArgumentParser:
 
 def _add_options(add: Callable[..., argparse.Action]) -> None:
     add("--source", metavar="DIR", help="show source lines of files below DIR, and tell findings by their text")
-    add("-o", "--html", metavar="FILE", help="write a page")
-    add("--sarif", metavar="FILE", help="write SARIF 2.1.0, for code hosts")
+    add("-o", "--html", metavar="FILE", type=_output, help="write a page")
+    add("--sarif", metavar="FILE", type=_output, help="write SARIF 2.1.0, for code hosts")
     add("--category", metavar="NAME", type=_category, default="goodlock", help="of the SARIF run (goodlock)")
-    add("--dot", metavar="FILE", help="write a graph for Graphviz")
+    add("--dot", metavar="FILE", type=_output, help="write a graph for Graphviz")
     add("--text", action="store_true", help="print the findings (if nothing else is written, always)")
     add("--known", metavar="FILE", help="findings that are accepted: only others give status 1")
     add("--confirmed", metavar="FILE", action="append", default=[], help="an outcome of goodlock-confirm (repeatable)")
-    add("--write-known", metavar="FILE", help="write the present findings as accepted ones")
+    add("--write-known", metavar="FILE", type=_output, help="write the present findings as accepted ones")
     add("--most", metavar="N", type=_whole_number, default=200, help="findings drawn in the page and the graph (200)")
     add("-V", "--version", action="version", version=f"{TOOL} {__version__}", help="print version")
     add("-h", "--help", action="help", help="print help")
