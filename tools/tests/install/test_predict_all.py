@@ -285,6 +285,19 @@ def test_what_a_terminal_stops_goes_on_afterwards(path):
     assert set(reports()) == {"a.std.json", "b.std.json", "c.std.json"}
 
 
+def test_a_command_that_is_missing_is_told(path, tmp_path, monkeypatch):
+    """Where xargs isn't there, as where nothing is."""
+    write("a.std", TRACE)
+    (tmp_path / "bin").mkdir()
+    for name in "readlink dirname nproc mktemp find sort tr setsid flock cat mkdir mv rm head".split():
+        (tmp_path / "bin" / name).symlink_to(shutil.which(name))
+    for folder, missing in (("bin", "xargs"), ("nowhere", "readlink")):
+        monkeypatch.setenv("PATH", str(tmp_path / folder))
+        told = f"goodlock-predict-all: there is no {missing} on PATH\n"
+        assert predict_all(path, "--program", "/bin/true", "a.std") == (2, "", told)
+    assert not os.path.exists("reports")
+
+
 USAGE = [
     ([], "there is no trace"),
     (["-"], "there is no trace"),
