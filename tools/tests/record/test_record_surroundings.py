@@ -45,6 +45,30 @@ def test_wrong_arguments(arguments):
     assert done.stderr != b"" and b"Traceback" not in done.stderr, done.stderr.decode()
 
 
+COMMANDS = ["goodlock-record", "goodlock-python", "goodlock-java", "goodlock-confirm"]
+
+
+@pytest.mark.parametrize("command", COMMANDS)
+def test_no_readlink(command):
+    """By which a command finds its own files. That is none of the program's statuses."""
+    done = subprocess.run([os.path.join(TOOLS, command), "true"], stderr=subprocess.PIPE, env={"PATH": "/nowhere"})
+    told = f"{command}: readlink, which tells where its own files are, can't be run\n"
+    assert done.returncode == REFUSED and done.stderr.decode() == told, done
+
+
+@pytest.mark.parametrize("command", COMMANDS)
+def test_no_python(command):
+    os.mkdir("bin")
+    os.symlink(shutil.which("readlink"), "bin/readlink")
+    hidden = 'mount --bind /dev/null /usr/bin/python3 && exec env PATH="$PWD/bin" "$@"'
+    words = ["unshare", "-m", "sh", "-c", hidden, "sh"]
+    tried = subprocess.run([*words, "bin/readlink", "bin/readlink"], stdout=subprocess.PIPE, stderr=subprocess.PIPE)
+    if tried.returncode != 0:
+        pytest.skip("no namespaces of mounts here")
+    done = subprocess.run([*words, os.path.join(TOOLS, command), "true"], stderr=subprocess.PIPE)
+    assert done.returncode == REFUSED and done.stderr.decode() == f"{command}: there is no python3 on PATH\n", done
+
+
 NAMES = [(f"goodlock-{name}", option) for name in ("record", "python", "java") for option in ("-o", "--convert")]
 
 
