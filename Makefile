@@ -14,8 +14,8 @@ LIB := $(PREFIX)/lib/goodlock
 SHARE := $(PREFIX)/share
 DOC := $(SHARE)/doc/goodlock
 LIBRARY ?= prebuilt/libgoodlock.a
-# The same as seen from tools/: make takes no absolute path of a checkout in a folder whose name has blanks.
-ARCHIVE := $(if $(filter /%,$(LIBRARY)),,../)$(LIBRARY)
+# A copy of it, where it is there: make would take a path that has blanks in it for several files.
+ARCHIVE := $(if $(shell [ -f "$(LIBRARY)" ] && echo yes),$(OUT)/libgoodlock.a)
 LIBDIR ?= $(PREFIX)/lib
 # In goodlock.pc: so pkg-config --define-prefix finds both halves of what was moved, or was installed with DESTDIR.
 LIBDIR_BELOW_PREFIX = $(patsubst $(PREFIX)/%,$${prefix}/%,$(LIBDIR))
@@ -32,10 +32,10 @@ COMMANDS := goodlock $(RECORDERS) goodlock-predict-all goodlock-view
 INSTALL ?= install
 
 all: $(OUT)/goodlock man library
-	$(MAKE) -C tools $(if $(wildcard $(LIBRARY)),ARCHIVE="$(ARCHIVE)")
+	$(MAKE) -C tools $(if $(ARCHIVE),ARCHIVE=../$(ARCHIVE))
 	$(MAKE) -C tools/view
 
-$(OUT)/goodlock: $(PROGRAM) FORCE
+$(OUT)/goodlock: FORCE
 	mkdir -p $(OUT)
 	program="$(PROGRAM)"; cp -f "$${program:-$$(GOODLOCK_WHICH=1 ./goodlock)}" $@
 
@@ -46,13 +46,17 @@ man: $(OUT)/goodlock
 	else echo "There are no man pages, as help2man isn't installed." >&2; fi
 
 # The library, where its archive is at hand.
-library: $(if $(wildcard $(LIBRARY)),$(OUT)/$(SHARED) $(OUT)/goodlock.pc)
+library: $(if $(ARCHIVE),$(OUT)/$(SHARED) $(OUT)/goodlock.pc)
 	@[ -f "$(LIBRARY)" ] || echo "There is no $(LIBRARY), so the library for C is left out." >&2
 
-$(OUT)/$(SHARED): $(LIBRARY) library/goodlock.map
+$(OUT)/libgoodlock.a: FORCE
+	mkdir -p $(OUT)
+	cmp -s "$(LIBRARY)" $@ || cp -f "$(LIBRARY)" $@
+
+$(OUT)/$(SHARED): $(OUT)/libgoodlock.a library/goodlock.map
 	mkdir -p $(OUT)
 	$(CC) -shared -o $@ -Wl,-soname,$(SHARED) -Wl,--version-script,library/goodlock.map \
-	    -Wl,--whole-archive $(LIBRARY) -Wl,--no-whole-archive -lpthread
+	    -Wl,--whole-archive $< -Wl,--no-whole-archive -lpthread
 
 $(OUT)/goodlock.pc: library/goodlock.pc.in FORCE
 	mkdir -p $(OUT)
@@ -61,13 +65,13 @@ $(OUT)/goodlock.pc: library/goodlock.pc.in FORCE
 install-library: library
 	$(INSTALL) -d "$(DESTDIR)$(INCLUDE)" "$(DESTDIR)$(LIBDIR)/pkgconfig" "$(DESTDIR)$(DOC)/examples"
 	$(INSTALL) -m 644 $(HEADERS:%=library/%) "$(DESTDIR)$(INCLUDE)"
-	$(INSTALL) -m 644 $(LIBRARY) "$(DESTDIR)$(LIBDIR)/libgoodlock.a"
+	$(INSTALL) -m 644 $(ARCHIVE) "$(DESTDIR)$(LIBDIR)/libgoodlock.a"
 	$(INSTALL) -m 644 $(OUT)/$(SHARED) "$(DESTDIR)$(LIBDIR)"
 	ln -sf $(SHARED) "$(DESTDIR)$(LIBDIR)/libgoodlock.so"
 	$(INSTALL) -m 644 $(OUT)/goodlock.pc "$(DESTDIR)$(LIBDIR)/pkgconfig"
 	$(INSTALL) -m 644 library/examples/* "$(DESTDIR)$(DOC)/examples"
 
-install: all $(if $(wildcard $(LIBRARY)),install-library)
+install: all $(if $(ARCHIVE),install-library)
 	rm -rf "$(DESTDIR)$(LIB)"
 	$(INSTALL) -d "$(DESTDIR)$(BIN)" "$(DESTDIR)$(LIB)" "$(DESTDIR)$(DOC)" "$(DESTDIR)$(MAN)"
 	$(INSTALL) -d "$(DESTDIR)$(BASH_COMPLETIONS)" "$(DESTDIR)$(ZSH_COMPLETIONS)" "$(DESTDIR)$(FISH_COMPLETIONS)"

@@ -196,6 +196,23 @@ def test_a_program_is_built_by_pkg_config(prefix, source, compiler, held, monkey
 
 
 @needs_library
+def test_the_library_and_the_program_may_have_blanks_in_their_paths(copy, tmp_path):
+    """The checkout has no other library, which would be built into the reader for --live."""
+    checkout, place, folder = tmp_path / "checkout", tmp_path / "place", tmp_path / "my own"
+    shutil.copytree(copy, checkout, symlinks=True, ignore=shutil.ignore_patterns("out", "libgoodlock.a"))
+    folder.mkdir()
+    library = shutil.copy(archive(), folder / "a library.a")
+    program = shutil.copy(copy / "prebuilt" / "goodlock", folder / "a program")
+    command = ("make", "-s", "-C", checkout, "install", f"PREFIX={place}")
+    status, _, errors = run(*command, f"PROGRAM={program}", f"LIBRARY={library}")
+    assert status == 0, errors
+    assert (place / "lib" / "libgoodlock.a").read_bytes() == archive().read_bytes()
+    assert (place / "bin" / "goodlock").read_bytes() == program.read_bytes()
+    for name in ("lib/libgoodlock.so.0", "lib/goodlock/out/goodlock_live", "include/goodlock.h"):
+        assert (place / name).exists()
+
+
+@needs_library
 @pytest.mark.skipif(not has("pkg-config"), reason="pkg-config isn't installed")
 def test_the_library_is_found_where_it_was_moved(prefix, tmp_path, monkeypatch):
     """The header and the library that belong together: not the one here and the other where it was."""
