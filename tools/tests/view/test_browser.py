@@ -150,6 +150,23 @@ def test_search_finds_threads_locks_and_places_by_all_words(driver):
     assert value(driver, "document.getElementById('shown').textContent") == "0 of 6 shown"
 
 
+def test_search_finds_the_middle_of_a_long_name(driver):
+    """It is shown at the page's end alone. The third finding is one of the table."""
+    hazel, birch = ("n" * 150 + middle + "n" * 150 for middle in ("Hazel", "Birch"))
+    cycles = [
+        pair(lock, "index", places=(f"t{i}.c:1", "2", "3", "4")) for i, lock in enumerate((hazel, "short", birch))
+    ]
+    write("r.json", report(*cycles))
+    view("r.json", "-o", "p.html", "--most", "2")
+    show(driver, 1200)
+    put(driver, "search", "nHAZELn")
+    assert shown(driver) == ["t0"]
+    put(driver, "search", "index birch")
+    assert shown(driver) == ["t2"]
+    put(driver, "search", "hazel birch")
+    assert shown(driver) == []
+
+
 def test_filters_and_order(driver):
     many_findings()
     show(driver, 1200)

@@ -25,7 +25,7 @@
   tools.hidden = false;
   const items = [...document.querySelectorAll("[data-cycles]")].map((element, rank) => ({
     element, rank, home: element.parentNode, cycles: Number(element.dataset.cycles), threads: element.dataset.threads,
-    state: element.dataset.state.split(" "), place: element.querySelector(".places").textContent, text: null,
+    state: element.dataset.state.split(" "), place: element.querySelector(".places").textContent, texts: null,
   }));
   const orders = {
     rank: (a, b) => a.rank - b.rank,
@@ -33,12 +33,26 @@
     place: (a, b) => (a.place < b.place ? -1 : a.place > b.place ? 1 : a.rank - b.rank),
   };
 
+  // A long name stands in a finding by its two ends, with a link to the whole of it: search looks at that, too.
+  const names = new Map();
+  function nameAt(hash) {
+    if (!names.has(hash)) {
+      names.set(hash, document.getElementById(hash.slice(1)).nextElementSibling.textContent.toLowerCase());
+    }
+    return names.get(hash);
+  }
+
+  function textsOf(element) {
+    const hashes = new Set([...element.querySelectorAll('a[href^="#name-"]')].map((link) => link.hash));
+    return [element.textContent.toLowerCase(), ...[...hashes].map(nameAt)];
+  }
+
   function isAsked(item, words) {
     if (control("threads").value && control("threads").value !== item.threads) return false;
     if (control("state") && control("state").value && !item.state.includes(control("state").value)) return false;
     if (words.length === 0) return true;
-    if (item.text === null) item.text = item.element.textContent.toLowerCase();
-    return words.every((word) => item.text.includes(word));
+    if (item.texts === null) item.texts = textsOf(item.element);
+    return words.every((word) => item.texts.some((text) => text.includes(word)));
   }
 
   function filter() {
