@@ -575,10 +575,7 @@ class LiveSummary(Summary):
 
     def lines(self):
         yield from super().lines()
-        if self.report is None or self.report.code == WITHOUT_EVENTS:
-            return
-        if self.report.code != OK:
-            yield "%s: no report: %s" % (self.path, self.report.fault())
+        if self.report is None or self.report.code != OK:
             return
         sets = windows(self.process)
         scope = ", of %d windows" % len(sets) if sets else ""
@@ -586,6 +583,12 @@ class LiveSummary(Summary):
         yield "%s: %s; %s" % (self.path, self.report.count(), state)
         if self.copy.round:
             yield "%s hung: %s" % (self.name(), round_text(self.process, self.copy.round))
+
+    def lacks_report(self):
+        return self.report is not None and self.report.code not in (OK, WITHOUT_EVENTS)
+
+    def no_report(self):
+        return "%s: no report: %s" % (self.path, self.report.fault())
 
     def special_lines(self):
         for line in super().special_lines():
@@ -602,8 +605,9 @@ class LiveSummary(Summary):
 
 
 def report_recording(recording, path, first, running, ends, question, with_functions):
-    """Writes the report of each process; what is said of each, the first process's first, and what was damaged. `ends`: the wait
-    statuses that are known, by process."""
+    """Writes the report of each process; what is said of each, the first process's first, and what was damaged or has no report.
+    Nothing is written where there is none, or no memory for one. `ends`: the wait statuses that are known, by process.
+    """
     copied = last_copy(recording, running)
     processes, faults = named_processes(recording, copied, {}, with_functions)
     if first is None and processes:
@@ -623,10 +627,13 @@ def report_recording(recording, path, first, running, ends, question, with_funct
             is_json = path.endswith(".json")
             summary.report = report_of(recording, summary.process, question, not summary.open, is_json, False)
             if summary.report.code == MEMORY:
-                raise ConvertError("%s: no report: %s" % (summary.path, summary.report.fault()))
+                raise ConvertError(summary.no_report())
     recording.remove_work()
+    without = [summary.no_report() for summary in summaries if summary.lacks_report()]
+    if without and not any(summary.report and summary.report.code == OK for summary in summaries):
+        raise ConvertError("; ".join(without))
     write_reports(summaries)
-    return summaries, faults
+    return summaries, faults + without
 
 
 def write_reports(summaries):

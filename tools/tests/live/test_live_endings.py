@@ -1,6 +1,7 @@
 """Whatever is killed or full, the report says how far it goes; and what is refused, and left."""
 
 import os
+import re
 import shutil
 import signal
 import subprocess
@@ -66,26 +67,52 @@ def test_lost_events_are_not_settled():
     assert "so far, as events were lost" in said, said
 
 
-# goodlock-record, where the library is refused memory for each report.
+# goodlock-record, where the library answers this for each report that is made at the end: of all processes, or of children.
 REFUSES = """
 import sys
-sys.path.insert(0, sys.argv.pop(1))
+recorder, code, only_children = sys.argv.pop(1), int(sys.argv.pop(1)), sys.argv.pop(1) == "children"
+sys.path.insert(0, recorder)
 import launch, live
-live.answered_reports = lambda *asked: iter([live.Report(1, 0, False, b"")])
+answered = live.answered_reports
+def refuse(process, *asked):
+    refused = iter([live.Report(code, 0, False, b"")])
+    return refused if process.parent or not only_children else answered(process, *asked)
+live.answered_reports = refuse
 sys.exit(launch.main(launch.read_own_arguments, launch.Recorder()))
 """
+RING = "its forks and joins order a part of a thread before itself"
 
 
-def test_report_that_there_is_no_memory_for_is_made_later():
-    recorder = os.path.join(TOOLS, "record")
-    command = [sys.executable, "-c", REFUSES, recorder, "--live", "-o", "r.json", "./live", "killed"]
-    done = subprocess.run(command, stderr=subprocess.PIPE, timeout=LIMIT)
-    directory, said = raw_directory("r.json"), done.stderr.decode()
-    told = "r.json: no report: there wasn't enough memory (what was recorded is kept in %s)\n"
-    assert done.returncode == REFUSED and told % os.path.abspath(directory) in said, said
+def refused(code, whose, *words):
+    """The status and the errors of such a run."""
+    command = [sys.executable, "-c", REFUSES, os.path.join(TOOLS, "record"), str(code), whose, "--live", "-o", "r.json"]
+    done = subprocess.run([*command, *words], stdin=subprocess.DEVNULL, stderr=subprocess.PIPE, timeout=LIMIT)
+    return done.returncode, done.stderr.decode()
+
+
+@pytest.mark.parametrize("code, why", [(1, "there wasn't enough memory"), (10, RING)])
+def test_report_that_is_refused_is_made_later(code, why):
+    """Where it can be. What was recorded is there until then."""
+    status, said = refused(code, "all", "./live", "killed")
+    directory = raw_directory("r.json")
+    told = "r.json: no report: %s (what was recorded is kept in %s)\n" % (why, os.path.abspath(directory))
+    assert status == REFUSED and told in said, said
     assert not os.path.exists("r.json"), "there is a report"
+    status, again = refused(code, "all", "--convert", directory)
+    assert status == REFUSED and told in again, again
     said = report_later(directory)
     assert cycles_in(read_report()) == ORDERS, said
+
+
+def test_process_whose_report_is_refused_beside_another():
+    """That one has its report."""
+    status, said = refused(10, "children", "./locks", "goes_to_background")
+    told = re.search(
+        r"r\.json\.\d+: no report: %s\n.*: %s is kept\n" % (RING, re.escape(os.path.abspath(raw_directory("r.json")))),
+        said,
+    )
+    assert status == 0 and told, said
+    assert [name for name in os.listdir(".") if name.startswith("r.json") and ".raw." not in name] == ["r.json"]
 
 
 @pytest.mark.parametrize("name", ["r.json", "r.json.lines"])
