@@ -33,15 +33,7 @@ from build import BuildError, has_bytecode_room  # noqa: E402
 
 sys.dont_write_bytecode = not has_bytecode_room()
 
-from convert import (  # noqa: E402
-    ConvertError,
-    Sources,
-    clean,
-    name_process,
-    read_processes,
-    take_name,
-    without_parameters,
-)
+from convert import ConvertError, Sources, clean, name_process, read_processes, take_name  # noqa: E402
 from family import Family, adopt_orphans, script_command, send_signal  # noqa: E402
 from findings import ReportError, place_of, read_findings  # noqa: E402
 from launch import (  # noqa: E402
@@ -414,7 +406,7 @@ class Deadlock:
                 break
             loaded = self.process.modules.at(address - 1, self.process.modules.when)
             symbol = loaded.module.symbol_at(address - 1 - loaded.bias) if loaded else None
-            name = without_parameters(demangled([symbol.name]).get(symbol.name, symbol.name)) if symbol else "?"
+            name = demangled([symbol.name]).get(symbol.name, symbol.name) if symbol else "?"
             place = self.sources.frames(self.process, address - 1, self.process.modules.when)[0]
             parts.append(clean("%s (%s)" % (name, place)))
         return parts

@@ -423,12 +423,6 @@ def within_line(name):
     return "%s~%s" % (data[:NAME_LIMIT].decode("utf-8", "ignore"), hashlib.blake2b(data, digest_size=8).hexdigest())
 
 
-def without_parameters(name):
-    """A function's readable name without its return type's and parameters' noise."""
-    name = re.sub(r"\[clone [^\]]*\]", "", name).strip()
-    return re.sub(r"\(.*\)( const)?$", "", name) or name
-
-
 class Places:
     """Texts of sites (return addresses, perhaps several callers) of one process."""
 
@@ -703,9 +697,7 @@ def routine_name(symbol, readable):
         match = shape.match(name)
         if match:
             return lambda_name(match.group(1))
-    if name == symbol and symbol.startswith("_Z"):
-        return symbol
-    return without_parameters(name)
+    return name
 
 
 def static_name(place, symbol, readable):

@@ -55,6 +55,17 @@ def test_a_source_file_may_have_any_name(folder, source):
     assert status == DEADLOCKED and "    since one_way (%s:42)" % source in out, "status %d: %s%s" % (status, out, said)
 
 
+def test_stacks_have_the_whole_names_of_functions(folder):
+    """Those that are called by operator() end in parentheses, and may have more of them before."""
+    os.mkdir("objects")
+    build("g++", C_FLAGS + ["-std=c++17", "-O0", "-o", "objects/cycles", os.path.join(SOURCES, "objects.cc")])
+    status, out, said = run([*PATIENTLY, confirming.predict("", folder / "objects"), "--", "objects/cycles"])
+    assert status == DEADLOCKED, "status %d: %s%s" % (status, out, said)
+    for name, mark in (("one_way(void*)::{lambda(int)#1}", "in_a_lambda"), ("Called", "in_an_object")):
+        place = MARKS["objects.cc", mark]
+        assert out.count("          %s::operator() (%s)\n" % (name, place)) == 2, out
+
+
 def test_ring_of_three(predict):
     deadlocks(predict, "philosophers", 3)
 
