@@ -305,13 +305,10 @@ static int has_roles(void)
 
 void confirm_start(void)
 {
-    static char name[4096]; /* not on the stack, of which a thread may have little */
     confirming = 0;
     if (!has_plan() || !has_roles())
         return;
-    snprintf(name, sizeof name, "%s/%llu.%llu.waits", process.directory, (unsigned long long)process.pid,
-             (unsigned long long)process.image);
-    waits = file_map(name, WAIT_SLOTS * sizeof *waits);
+    waits = own_file_map("waits", WAIT_SLOTS * sizeof *waits);
     memset(waiters, 0, sizeof waiters);
     memset(is_taken, 0, sizeof is_taken);
     waiters_lock = 0;

@@ -17,6 +17,7 @@ import os
 import re
 import shutil
 import signal
+import stat
 import struct
 import subprocess
 import sys
@@ -58,6 +59,7 @@ HOLDS = (300, 300, 1000, 1000, 3000)
 LOOK = 0.1
 
 # confirm.c has this layout.
+WAITS_NAME = re.compile(r"([0-9]{1,18})\.([0-9]{1,18})\.waits")
 HELD_LIMIT, STACK_LIMIT = 64, 16
 HELD = 7
 WANTED_STACK = HELD + HELD_LIMIT
@@ -171,20 +173,28 @@ class Wait:
             return False
 
 
-def read_waits(directory):
+def waits_files(recording):
+    """Where it stands what the threads of each process wait for, by (pid, image); of none that has no room for that."""
+    found = {}
+    for place, _ in recording.places():
+        for match in filter(None, map(WAITS_NAME.fullmatch, os.listdir(place))):
+            path = os.path.join(place, match.group())
+            status = os.lstat(path)
+            if stat.S_ISREG(status.st_mode) and status.st_size > 0:
+                found[int(match.group(1)), int(match.group(2))] = path
+    return found
+
+
+def read_waits(recording):
     """The threads that wait, of all processes."""
     found = []
-    for name in os.listdir(directory):
-        if name.endswith(".waits"):
-            pid, image = map(int, name.split(".")[:2])
-            with open(os.path.join(directory, name), "rb") as file:
-                if os.fstat(file.fileno()).st_size == 0:
-                    continue  # just made
-                data = mmap.mmap(file.fileno(), 0, access=mmap.ACCESS_READ)
-            for place in range(0, len(data), 8 * WAIT_WORDS):
-                if struct.unpack_from("=Q", data, place + 16)[0]:
-                    found.append(Wait((pid, image), struct.unpack_from("=%dQ" % WAIT_WORDS, data, place)))
-            data.close()
+    for process, path in waits_files(recording).items():
+        with open(path, "rb") as file:
+            data = mmap.mmap(file.fileno(), 0, access=mmap.ACCESS_READ)
+        for place in range(0, len(data) - 8 * WAIT_WORDS + 1, 8 * WAIT_WORDS):  # fewer of a file that is just made
+            if struct.unpack_from("=Q", data, place + 16)[0]:
+                found.append(Wait(process, struct.unpack_from("=%dQ" % WAIT_WORDS, data, place)))
+        data.close()
     return found
 
 
@@ -288,9 +298,10 @@ class Run:
 
     def __init__(self, settings, directory, preload, plan):
         self.recording = new_recording(os.path.join(directory, "run"))
-        plan_path = os.path.join(directory, "plan")
+        plan_path = os.path.join(self.recording.directory, "plan")
         with open(plan_path, "wb") as file:
             file.write(os.fsencode(plan))
+        os.chmod(plan_path, 0o644)  # for the user whom the program may become
         settings.frames, settings.all = 1, False
         environment = child_environment(settings, self.recording.directory, preload.path)
         environment["GOODLOCK_CONFIRM_PLAN"] = plan_path
@@ -314,7 +325,7 @@ class Run:
         before = None
         while self.members():
             self.family.reap()
-            cycle = waiting_cycle(read_waits(self.recording.directory))
+            cycle = waiting_cycle(read_waits(self.recording))
             keys = {wait.key() for wait in cycle}
             if cycle and keys == before:
                 self.cycle = cycle
@@ -341,8 +352,7 @@ class Run:
 
     def blind(self, processes):
         """Those in which there was no room for what threads wait for: a cycle there isn't seen."""
-        paths = {key: os.path.join(self.recording.directory, "%d.%d.waits" % key) for key in processes}
-        return [key for key, path in paths.items() if not (os.path.exists(path) and os.path.getsize(path))]
+        return processes.keys() - waits_files(self.recording).keys()
 
     def processes(self):
         processes, _ = read_processes(self.recording)
@@ -436,6 +446,11 @@ class Deadlock:
 # --- All tries --------------------------------------------------------------------------------------
 
 
+def let_through(folder):
+    """To what they know the name of: a program that gives up root's rights has to come to its recording, and nobody else knows it."""
+    os.chmod(folder, 0o711)
+
+
 def outcome_of(settings, finding, directory, preload):
     """A deadlock and the number of the run in which it came (0: the first one, that finds the places), or None. Also how many
     runs took too long."""
@@ -445,6 +460,7 @@ def outcome_of(settings, finding, directory, preload):
         hold = HOLDS[min(number, len(HOLDS)) - 1] if number else 0
         own = os.path.join(directory, "%d" % number)
         os.mkdir(own)
+        let_through(own)
         run = Run(settings, own, preload, places.plan(hold))
         processes = run.processes()
         if not processes:
@@ -507,6 +523,7 @@ def run_and_tell(settings, finding, output):
     preload = Preload()
     directory = tempfile.mkdtemp(prefix="goodlock-confirm.")
     try:
+        let_through(directory)
         deadlock, number, late = outcome_of(settings, finding, directory, preload)
     finally:
         preload.remove()

@@ -255,18 +255,18 @@ static int file_new(const char *path)
     return -1;
 }
 
-/* Opens a new file of this process: in the recording's directory, or, where the user that this process became may not
- * make files there, in the directory that was made for that user. */
-static int extent_open(char *path, size_t size, uint64_t image, uint64_t number)
+/* Opens a new file of this process, whose name begins with its number and that of its image: in the recording's
+ * directory, or, where the user that this process became may not make files there, in the directory that was made for
+ * that user. */
+static int own_file_new(char *path, size_t size, uint64_t image, const char *last)
 {
-    char digits[4][DIGITS];
+    char digits[3][DIGITS];
     const char *pid = digits_of(process.pid, digits[0]), *images = digits_of(image, digits[1]);
-    const char *numbers = digits_of(number, digits[2]);
-    text_join(path, size, process.directory, "/", pid, ".", images, ".", numbers, NULL);
+    text_join(path, size, process.directory, "/", pid, ".", images, ".", last, NULL);
     int file = file_new(path);
     if (file < 0 && errno == EACCES) {
-        const char *user = digits_of(geteuid(), digits[3]);
-        text_join(path, size, process.directory, "/u", user, "/", pid, ".", images, ".", numbers, NULL);
+        const char *user = digits_of(geteuid(), digits[2]);
+        text_join(path, size, process.directory, "/u", user, "/", pid, ".", images, ".", last, NULL);
         file = file_new(path);
     }
     return file;
@@ -286,9 +286,10 @@ static int file_fill(int file, uint64_t bytes)
     return 1;
 }
 
-void *file_map(const char *path, uint64_t bytes)
+void *own_file_map(const char *last, uint64_t bytes)
 {
-    int file = file_new(path);
+    static char path[4096]; /* not on the stack, of which a thread may have little */
+    int file = own_file_new(path, sizeof path, process.image, last);
     void *pages = MAP_FAILED;
     if (file >= 0 && file_fill(file, bytes))
         pages = file_pages(file, bytes, PROT_READ | PROT_WRITE, MAP_SHARED);
@@ -332,7 +333,8 @@ static void *file_fit(int file, uint64_t *bytes, uint64_t least)
 static char *extent_map(uint64_t image, uint64_t number, uint64_t least)
 {
     static char path[4096]; /* not on the stack, of which a thread may have little */
-    int file = extent_open(path, sizeof path, image, number);
+    char digits[DIGITS];
+    int file = own_file_new(path, sizeof path, image, digits_of(number, digits));
     if (file < 0)
         return NULL;
     uint64_t bytes = extent_bytes(number);

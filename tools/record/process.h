@@ -64,8 +64,9 @@ ssize_t link_read(const char *path, char *to, size_t size);
 /* So many bytes of a file, mapped; MAP_FAILED where they can't be. */
 void *file_pages(int file, size_t bytes, int protection, int flags);
 
-/* A new file with room for so many bytes, mapped; NULL if there is none. */
-void *file_map(const char *path, uint64_t bytes);
+/* A new file of this process with room for so many bytes, mapped; NULL if there is none. The last part of its name is
+ * told. */
+void *own_file_map(const char *last, uint64_t bytes);
 
 /* A record of a thread or lock that has nothing but its number. Called between slow_enter and slow_leave. */
 void number_note(enum record_kind kind, uint64_t number);

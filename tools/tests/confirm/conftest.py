@@ -2,6 +2,9 @@
 
 import functools
 import os
+import pathlib
+import shutil
+import tempfile
 
 import pytest
 from c_programs import C_FLAGS, SOURCES, build, put
@@ -36,3 +39,19 @@ def in_a_folder_with_the_programs(programs, folder, monkeypatch):
     monkeypatch.setenv("TMPDIR", str(folder / confirming.TEMPORARY))
     yield
     confirming.check_that_nothing_is_left(folder)
+
+
+@pytest.fixture
+def open_folder(programs, monkeypatch):
+    """The test runs where everybody may go, with the program, and with a folder for temporary files; the path."""
+    if os.geteuid() != 0:
+        pytest.skip("not root")
+    path = tempfile.mkdtemp(prefix="goodlock-confirm-tests.", dir="/tmp")
+    os.mkdir(os.path.join(path, confirming.TEMPORARY))
+    for place in (path, os.path.join(path, confirming.TEMPORARY)):
+        os.chmod(place, 0o755)
+    shutil.copy(programs / "cycles", path)
+    monkeypatch.chdir(path)
+    monkeypatch.setenv("TMPDIR", os.path.join(path, confirming.TEMPORARY))
+    yield pathlib.Path(path)
+    shutil.rmtree(path)

@@ -9,7 +9,7 @@ import textwrap
 import confirming
 import pytest
 from c_programs import C_FLAGS, MARKS, SOURCES, TOOLS, build
-from confirming import DEADLOCKED, PATIENTLY, VIEW, deadlocks, run
+from confirming import CONFIRM, DEADLOCKED, PATIENTLY, VIEW, check_that_nothing_is_left, deadlocks, run
 
 
 def test_finding_of_the_documentation(predict):
@@ -64,6 +64,38 @@ def test_stacks_have_the_whole_names_of_functions(folder):
     for name, mark in (("one_way(void*)::{lambda(int)#1}", "in_a_lambda"), ("Called", "in_an_object")):
         place = MARKS["objects.cc", mark]
         assert out.count("          %s::operator() (%s)\n" % (name, place)) == 2, out
+
+
+NOBODY = {"user": 65534, "group": 65534, "extra_groups": []}
+
+
+def may_look_into_others():
+    """Whether root may here what it needs CAP_SYS_PTRACE for: to read the memory of another user's process."""
+    other = subprocess.Popen(["sleep", "60"], **NOBODY)
+    try:
+        with open("/proc/%d/mem" % other.pid, "rb"):
+            return True
+    except PermissionError:
+        return False
+    finally:
+        other.kill()
+        other.wait()
+
+
+@pytest.mark.parametrize("way", ["exec", "fork"])
+def test_program_that_gives_up_root(predict, open_folder, way):
+    """And goes on as another program, by itself or in a child, for which nothing was made while it was root."""
+    if not shutil.which("setpriv"):
+        pytest.skip("setpriv isn't there")
+    if subprocess.run(["test", "-x", CONFIRM], **NOBODY).returncode != 0:
+        pytest.skip("not everybody may go to the recorder")
+    if not may_look_into_others():
+        pytest.skip("root may not look into others' processes here")
+    words = ["setpriv", "--reuid=65534", "--clear-groups"]
+    words += ["./cycles", "opposite"] if way == "exec" else ["sh", "-c", "./cycles opposite; true"]
+    status, out, said = run([*PATIENTLY, predict("opposite"), "--", *words])
+    assert status == DEADLOCKED and "main.1:one_way holds a since" in out, "status %d: %s%s" % (status, out, said)
+    check_that_nothing_is_left(open_folder)
 
 
 def test_ring_of_three(predict):
