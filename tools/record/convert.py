@@ -438,7 +438,7 @@ class Places:
 
     def text_without_functions(self, site):
         text = self.text(site)
-        return re.sub(r" \([^<]*\)(?=<|$)", "", text) if self.sources.functions else text
+        return re.sub(r"(:[0-9]+|\+0x[0-9a-f]+) \([^<]*\)(?=<|$)", r"\1", text) if self.sources.functions else text
 
     def owner_of(self, site):
         """The process that told it: this one, or the nearest that it has it from; None where none did."""

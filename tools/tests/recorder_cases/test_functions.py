@@ -3,10 +3,12 @@
 import json
 import os
 import re
+import shutil
 import subprocess
 import sys
 
-from c_programs import REFERENCE, Run, expand
+import pytest
+from c_programs import C_FLAGS, REFERENCE, SOURCES, Run, build, expand
 from known_traces import LIMIT, TOOLS, compare
 
 
@@ -71,14 +73,18 @@ def test_names_of_locks_that_differ_in_a_bar():
         assert re.fullmatch(r"operator!::guard@operators\+0x[0-9a-f]+", lock), lock
 
 
-def test_names_of_locks_have_none():
-    """So a lock has the same name whether or not functions are asked for."""
+@pytest.mark.parametrize("source", ["crowd.c", "one (copy).c"])
+def test_names_of_locks_have_none(source):
+    """So a lock has the same name whether or not functions are asked for, and whatever name its file has."""
     names = []
+    shutil.copy(os.path.join(SOURCES, "crowd.c"), source)
+    build("gcc", C_FLAGS + ["-O1", "-o", "named", source])
     for options in ([], ["--functions"]):
-        run = Run(["./crowd", "3"], options)
+        run = Run(["./named", "3"], options)
         assert run.status == 0, run.said
         names.append([line.split("|")[1] for line in run.lines()])
     assert names[0] == names[1], str(names)
+    assert any(f"@{source}:" in name for name in names[0]), str(names)
 
 
 def test_finding_with_functions_is_confirmed():
