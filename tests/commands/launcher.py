@@ -392,6 +392,21 @@ def unbuilt(clone):
     has(err, "no program ran", "couldn't be built")
 
 
+def without_readlink(clone):
+    """The checkout that it is called in isn't taken for its own."""
+    commands = clone.tools / "commands"
+    commands.mkdir()
+    for command in pathlib.Path("/usr/bin").iterdir():
+        if command.name not in ("readlink", "dirname"):
+            (commands / command.name).symlink_to(command)
+    shutil.copy(TOP / "goodlock", clone.tools / "goodlock")
+    done = subprocess.run(
+        [clone.tools / "goodlock", *WORDS], cwd=clone.top, env={"PATH": str(commands)}, capture_output=True, text=True
+    )
+    said = "goodlock: readlink, which tells where its own files are, can't be run\n"
+    equal((done.stdout, done.stderr, done.returncode), ("", said, 125))
+
+
 TESTS = (
     carried_program,
     called_otherwise,
@@ -404,6 +419,7 @@ TESTS = (
     what_is_no_source,
     another_carried_program,
     without_toolchain,
+    without_readlink,
     without_its_library,
     without_sharing,
     unproved,
