@@ -241,13 +241,14 @@ class Tests:
         for name in sorted(told.keys() | right.keys()):
             problem = f"{told.get(name)} in goodlock.h, {right.get(name)} in codes.rt"
             self.check(f"GOODLOCK_{name}", told.get(name) == right.get(name), problem)
-        arms = (EXPORTS / "numbered.rt").read_text()
-        events = re.findall(r"(\w+) => Some\(Event::(\w+) \{(.*?)\}\)", arms, re.S)
+        contract = (EXPORTS.parent / "specs/Numbered.antt").read_text()
+        events = re.findall(r"if kind == (\w+) then Some \((\w+)(?: (Exclusive|Shared))? operand place\)", contract)
         kinds = {
-            name: re.sub(r"(?<=[a-z])(?=[A-Z])", "_", event).upper() + "_SHARED" * ("LockMode::Shared" in fields)
-            for name, event, fields in events
+            name: re.sub(r"(?<=[a-z])(?=[A-Z])", "_", event).upper() + "_SHARED" * (mode == "Shared")
+            for name, event, mode in events
         }
-        self.check("the kinds of event", kinds == {name: name for name in parts[1]}, f"{kinds} in numbered.rt")
+        self.check("the kinds of event", kinds == {name: name for name in parts[1]}, f"{kinds} in Numbered.antt")
+        arms = (EXPORTS / "numbered.rt").read_text()
         refusals = set(re.findall(r"Refusal::\w+ => (\w+),", arms))
         said = {name for name, number in parts[0].items() if number >= 20}
         self.check("the refusals of an event", refusals == said, f"{said} in goodlock.h, {refusals} in numbered.rt")
