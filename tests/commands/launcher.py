@@ -30,7 +30,7 @@ echo "said by {0}" >&2
 exit 1
 """
 
-# As the toolchain's command: `run` leaves the program and runs it; what works in several crates takes its code.
+# As the toolchain's command: what works in several crates takes its code, `run` would leave the program and run it.
 STAND_IN = r"""#!/usr/bin/env python3
 import os
 import shutil
@@ -67,12 +67,15 @@ echo "run" >>"$CALLS"
 cp "$MADE" out/goodlock
 """
 
-# As the library that the toolchain's command is written over; a crate is proved where it isn't named in UNPROVED.
+# As the library that the toolchain's command is written over. A crate is proved where it isn't named in UNPROVED, its text
+# refused where it is in REFUSED.
 LIBRARY = r"""
 import os
-import time
+import subprocess
+import sys
 
-RATTLE = KIT = None
+KIT = os.path.dirname(os.path.abspath(__file__))
+RATTLE = f"{KIT}/rattle"
 TOP = os.environ["CLONE"]
 
 
@@ -82,6 +85,7 @@ class Crate:
     def __init__(self, name, uses):
         self.name, self.folder = name, f"{TOP}/crates/{name}"
         self.deps = [Crate.known[it] for it in uses if it in Crate.known]
+        self.is_static, self.rlib = name == "archive", f"{self.folder}/out/rlib/{name}.rlib"
         Crate.known[name] = self
 
     def below(self):
@@ -91,43 +95,33 @@ class Crate:
         return found
 
     def makes_rlib(self):
-        return self.name != "goodlock"
+        return self.name not in ("archive", "goodlock")
 
     def count(self, pattern):
         return 20 if self.name == "twin" else 10
 
-    def build_rlib(self, flags, anew):
-        with open(os.environ["CALLS"], "a") as calls:
-            calls.write(f"{self.name} {' '.join(flags)}\n")
-        if "NICE" in os.environ:
-            with open(os.environ["NICE"], "a") as nice:
-                nice.write(f"{self.name} {os.getpriority(os.PRIO_PROCESS, 0)}\n")
-        if self.name in os.environ["UNPROVED"].split():
-            print("an open goal", file=self.out)
-            return 1
-        if "BESIDE" in os.environ:
-            self.stays(os.environ["BESIDE"].split())
-        return 0
+    def stamp(self):
+        return repr([[(path, open(path).read()) for path in self.sources()], *(it.stamp() for it in self.deps)])
 
-    # Where it is one of those: until each of them has begun, and half a second more, in which a further one would begin.
-    def stays(self, beside):
-        end = time.monotonic() + 60
-        while self.name in beside and time.monotonic() < end:
-            with open(os.environ["CALLS"]) as calls:
-                begun = [line.split()[0] for line in calls]
-            if set(beside) <= set(begun):
-                break
-            time.sleep(0.01)
-        time.sleep(0.5)
-        with open(os.environ["CALLS"], "a") as calls:
-            calls.write(f"end {self.name}\n")
+    def sources(self):
+        return sorted(f"{at}/{name}" for at, _, names in os.walk(f"{self.folder}/src") for name in names)
+
+    def words(self, flags, keeps):
+        uses = [f"{it.name}={it.rlib}" for it in self.below()]
+        return ["--crate-name", self.name, *uses, "--anew"[: 6 * (not keeps)], *flags]
+
+    def call(self, *words):
+        return subprocess.run(words, cwd=self.folder, stdout=self.out, stderr=subprocess.STDOUT).returncode
+
+    def build_rlib(self, flags, anew):
+        return self.call(RATTLE, "build", *self.words(flags, keeps=True), "-o", self.rlib)
 
 
 def crates_below(top):
     with open(f"{top}/crates.txt") as lines:
         for line in lines:
             name, _, uses = line.partition("#")[0].partition(":")
-            Crate(name.strip(), uses.split())
+            Crate(name.split()[0], uses.split())
     return [*Crate.known.values()]
 
 
@@ -144,7 +138,62 @@ def fmt(*words):
 
 
 def stop_on_text(crate, verb):
-    pass
+    if crate.name in os.environ.get("REFUSED", "").split():
+        print(f"the text of {crate.name} is refused", file=sys.stderr)
+        raise SystemExit(2)
+"""
+
+# As the toolchain's prover: it is done where all that it is to read is there, and leaves what it is to make.
+PROVER = r"""#!/usr/bin/env python3
+import os
+import sys
+import time
+
+words = sys.argv[1:]
+name, jobs = (words[words.index(flag) + 1] for flag in ("--crate-name", "--jobs"))
+made = words[words.index("-o") + 1]
+
+
+def call(text):
+    with open(os.environ["CALLS"], "a") as calls:
+        calls.write(f"{text}\n")
+
+
+# Where it is one of those: until each of them has begun, and half a second more, in which a further one would begin.
+def stays(beside):
+    end = time.monotonic() + 60
+    while name in beside and time.monotonic() < end:
+        with open(os.environ["CALLS"]) as calls:
+            begun = [line.split()[0] for line in calls]
+        if set(beside) <= set(begun):
+            break
+        time.sleep(0.01)
+    time.sleep(0.5)
+    call(f"end {name}")
+
+
+call(f"{name} --jobs {jobs}")
+if "HOW" in os.environ:
+    with open(os.environ["HOW"], "a") as how:
+        flags = [flag for flag in ("--anew", "--statements", "--toolchain") if flag in words]
+        how.write(" ".join([name, *flags, os.path.basename(made)]) + "\n")
+if "NICE" in os.environ:
+    with open(os.environ["NICE"], "a") as nice:
+        nice.write(f"{name} {os.getpriority(os.PRIO_PROCESS, 0)}\n")
+missing = [word for word in words if "=" in word and not os.path.isfile(word.partition("=")[2])]
+if name in os.environ["UNPROVED"].split() or missing:
+    print("an open goal", *missing)
+    sys.exit(1)
+with open(made, "w") as file:
+    file.write(name)
+if "BESIDE" in os.environ:
+    stays(os.environ["BESIDE"].split())
+"""
+
+# As the toolchain's linker.
+LINKER = r"""#!/bin/sh
+echo "link" >>"$CALLS"
+[ "$BUILT" = 0 ] && cp "$MADE" out/goodlock || { echo "nothing linked"; exit 1; }
 """
 
 
@@ -172,7 +221,9 @@ class Clone:
         shutil.copy(TOP / "goodlock", self.top / "goodlock")
         self.tools = folder / "bin"
         self.tools.mkdir()
-        for name, text in (("rt", STAND_IN), ("rtlib.py", LIBRARY), ("made", PROGRAM.replace("{0}", "the built one"))):
+        kit = {"rt": STAND_IN, "rtlib.py": LIBRARY, "rattle": PROVER, "bin/rattle-link": LINKER}
+        for name, text in {**kit, "made": PROGRAM.replace("{0}", "the built one")}.items():
+            (self.tools / name).parent.mkdir(exist_ok=True)
             (self.tools / name).write_text(text)
             (self.tools / name).chmod(0o755)
         self.calls = folder / "calls"
@@ -250,13 +301,39 @@ def called_otherwise(clone):
 
 def built_where_asked(clone):
     out, err, status, calls = clone.run(*WORDS, text="text", GOODLOCK_BUILD="1", JOBS="3")
-    equal((out, status, calls[0], calls[-1]), (OUT, 1, "share", "run"))
-    equal(sorted(names(calls[1:-1])), sorted(LIBRARIES))
-    has(err, "goodlock: proving 3 crates", "goodlock: building the program")
+    equal((out, status, calls[0], calls[-2:]), (OUT, 1, "share", ["goodlock --jobs 3", "link"]))
+    equal(sorted(names(calls[1:-2])), sorted(LIBRARIES))
+    has(err, "goodlock: proving 4 crates and building the program")
     has(err, f"goodlock: built {clone.top}/crates/goodlock/out/goodlock", "said by the built one")
     equal(clone.run(*WORDS, text="text", GOODLOCK_BUILD="1"), BUILT)
     equal(clone.run(*WORDS, text="text", with_rt=False, GOODLOCK_BUILD="1"), BUILT)
     equal(clone.run(*WORDS, text="text"), CARRIED)
+
+
+def how_it_is_built(clone):
+    """All from nothing, and libraries as the gate builds them, without their proofs."""
+    how = clone.tools / "how"
+    clone.run(*WORDS, GOODLOCK_BUILD="1", HOW=str(how))
+    libraries = [f"{name} --anew --statements {name}.rlib" for name in sorted(LIBRARIES)]
+    equal(sorted(how.read_text().splitlines()), ["goodlock --anew --toolchain goodlock.o", *libraries])
+
+
+def over_what_was_kept(clone):
+    """What other commands take is built so where that is asked for, with its proofs, and no program."""
+    how = clone.tools / "how"
+    for crate in LIBRARIES:
+        (clone.top / f"crates/{crate}/out/rlib").mkdir(parents=True)
+    equal(clone.run("--kept", called="tools/gate/prove.py", HOW=str(how))[2], 0)
+    equal(sorted(how.read_text().splitlines()), [f"{name} {name}.rlib" for name in sorted(LIBRARIES)])
+
+
+def an_archive(clone):
+    how = clone.tools / "how"
+    clone.write("crates.txt", CRATES + "archive staticlib: twin\n")
+    clone.write("crates/archive/src/lib.rt", "fn f() {}\n")
+    equal(clone.run("archive", called="tools/gate/prove.py", HOW=str(how))[2], 0)
+    libraries = [f"{name} --anew --statements {name}.rlib" for name in ("low", "twin")]
+    equal(how.read_text().splitlines(), [*libraries, "archive --anew --toolchain libarchive.a"])
 
 
 def processes_at_once(clone):
@@ -266,7 +343,7 @@ def processes_at_once(clone):
     for crate in ("third", "fourth"):
         clone.write(f"crates/{crate}/src/lib.rt", "fn f() {}\n")
     calls = clone.run(*WORDS, GOODLOCK_BUILD="1", JOBS="2", BESIDE="middle twin third")[3]
-    equal((calls[:3], calls[-1]), (["share", "low --jobs 2", "end low"], "run"))
+    equal((calls[:3], calls[-1]), (["share", "low --jobs 2", "end low"], "link"))
     equal(sorted(calls[3:6]), ["middle --jobs 1", "third --jobs 1", "twin --jobs 2"])
     equal((calls[6][:3], calls.index("fourth --jobs 1") > 6), ("end", True))
 
@@ -288,30 +365,30 @@ def stands_back(clone):
     nice = clone.tools / "nice"
     clone.run(*WORDS, GOODLOCK_BUILD="1", JOBS="2", NICE=str(nice))
     by_crate = {name: int(number) for name, number in map(str.split, nice.read_text().splitlines())}
-    equal((sorted(by_crate), by_crate["twin"]), (sorted(LIBRARIES), by_crate["low"]))
+    equal((sorted(by_crate), by_crate["twin"]), (sorted(["goodlock", *LIBRARIES]), by_crate["low"]))
     equal(by_crate["middle"] > by_crate["twin"], True)
 
 
 def progress_is_told(clone):
     err = clone.run(*WORDS, GOODLOCK_BUILD="1")[1]
-    lines = [line for line in err.splitlines() if " of 3: " in line]
-    equal([line.split(" (")[0] for line in lines[:1]], ["goodlock: 1 of 3: low proved"])
-    equal(len(lines), 3)
+    lines = [line.split(" (")[0] for line in err.splitlines() if " of 4: " in line]
+    equal((len(lines), lines[0], lines[-1]), (4, "goodlock: 1 of 4: low proved", "goodlock: 4 of 4: goodlock proved"))
 
 
 def changed_source(clone):
-    """What differs by content is built, and then neither carried nor old."""
+    """What differs by content is built, and then neither carried nor old; what it doesn't stand on isn't proved again."""
     clone.write("crates/low/src/lib.rt", "fn f() { }\n")
-    equal(clone.run(*WORDS, text="text")[3][-1], "run")
+    equal(sorted(names(clone.run(*WORDS, text="text")[3])), sorted([*LIBRARIES, "goodlock", "link", "share"]))
     equal(clone.run(*WORDS, text="text"), BUILT)
-    clone.write("crates/middle/specs/New.antt", "")
-    equal(clone.run(*WORDS, text="text")[3][-1], "run")
-    (clone.top / "crates/middle/specs/New.antt").rename(clone.top / "crates/middle/specs/Newer.antt")
-    equal(clone.run(*WORDS, text="text")[3][-1], "run")
+    clone.write("crates/middle/src/new.rt", "")
+    again = ["share", "middle", "goodlock", "link"]
+    equal(names(clone.run(*WORDS, text="text")[3]), again)
+    (clone.top / "crates/middle/src/new.rt").rename(clone.top / "crates/middle/src/newer.rt")
+    equal(clone.run(*WORDS, text="text")[3][-1], "link")
     clone.write("crates.txt", CRATES.replace("bstr", "bstr itoa"))
-    equal(clone.run(*WORDS, text="text")[3][-1], "run")
+    equal(clone.run(*WORDS, text="text")[3][-1], "link")
     clone.write("crates.txt", CRATES)
-    (clone.top / "crates/middle/specs/Newer.antt").unlink()
+    (clone.top / "crates/middle/src/newer.rt").unlink()
     clone.write("crates/low/src/lib.rt", "fn f() {}\n")
     equal(clone.run(*WORDS, text="text"), CARRIED)
 
@@ -331,7 +408,7 @@ def another_carried_program(clone):
     out, err, status, calls = clone.run(*WORDS, text="text", with_rt=False)
     equal((out, status, calls), ("", 125, []))
     has(err, "goodlock: prebuilt/goodlock isn't the file that prebuilt/SHA256SUMS names, so it isn't used")
-    equal(clone.run(*WORDS, text="text")[3][-1], "run")
+    equal(clone.run(*WORDS, text="text")[3][-1], "link")
 
 
 NO_RT = ", and rt isn't on PATH to prove and build the program.\n"
@@ -367,6 +444,11 @@ def without_its_library(clone):
     (clone.tools / "rt").write_text(OTHER)
     out, err, status, calls = clone.run(*WORDS, text="text", GOODLOCK_BUILD="1")
     equal((out, status, calls), (OUT, 1, ["run"]))
+    (clone.tools / "rt").write_text(STAND_IN)
+    (clone.top / "crates/goodlock/out/goodlock").unlink()
+    out, err, status, calls = clone.run("predict", GOODLOCK_BUILD="1", built=1)
+    equal((out, status, calls), ("", 125, ["run"]))
+    has(err, "no program ran", "couldn't be built")
 
 
 def without_sharing(clone):
@@ -374,22 +456,34 @@ def without_sharing(clone):
     rt = clone.tools / "rt"
     rt.write_text(rt.read_text().replace("def share_work(", "def share_nothing("))
     out, err, status, calls = clone.run(*WORDS, text="text", GOODLOCK_BUILD="1", JOBS="2")
-    equal((out, status, calls[0], calls[-1]), (OUT, 1, "low --jobs 2", "run"))
-    equal(sorted(names(calls[:-1])), sorted(LIBRARIES))
+    equal((out, status, calls[0], calls[-2:]), (OUT, 1, "low --jobs 2", ["goodlock --jobs 2", "link"]))
+    equal(sorted(names(calls[:-2])), sorted(LIBRARIES))
 
 
 def unproved(clone):
     out, err, status, calls = clone.run("predict", text="text", unproved="middle", GOODLOCK_BUILD="1")
-    equal((out, status, "run" in calls), ("", 125, False))
+    equal((out, status, "link" in calls), ("", 125, False))
     has(err, "an open goal", "couldn't be built")
     log = err.splitlines()[-1].split(" is in ")[1]
     has(pathlib.Path(log).read_text(), "== low proved", "== middle NOT PROVED", "an open goal\n")
+    equal(names(clone.run("predict", GOODLOCK_BUILD="1")[3]), ["share", "middle", "goodlock", "link"])
+
+
+def refused_text(clone):
+    out, err, status, calls = clone.run("predict", GOODLOCK_BUILD="1", REFUSED="middle")
+    equal((out, status, "middle" in names(calls), "link" in calls), ("", 125, False, False))
+    has(err, "the text of middle is refused", "couldn't be built")
 
 
 def unbuilt(clone):
+    """Where linking fails the status says so; what an earlier build left isn't taken for the sources that it was of."""
+    clone.run("predict", GOODLOCK_BUILD="1")
+    clone.write("crates/low/src/lib.rt", "fn f() { }\n")
     out, err, status, calls = clone.run("predict", text="text", built=1, GOODLOCK_BUILD="1")
-    equal((out, status, calls[-1]), ("", 125, "run"))
-    has(err, "no program ran", "couldn't be built")
+    equal((out, status, calls[-1]), ("", 125, "link"))
+    has(err, "nothing linked", "couldn't be built")
+    clone.write("crates/low/src/lib.rt", "fn f() {}\n")
+    equal(clone.run("predict", GOODLOCK_BUILD="1")[3][-1], "link")
 
 
 def without_readlink(clone):
@@ -411,6 +505,9 @@ TESTS = (
     carried_program,
     called_otherwise,
     built_where_asked,
+    how_it_is_built,
+    over_what_was_kept,
+    an_archive,
     processes_at_once,
     processes_are_shared,
     stands_back,
@@ -423,6 +520,7 @@ TESTS = (
     without_its_library,
     without_sharing,
     unproved,
+    refused_text,
     unbuilt,
 )
 

@@ -1,9 +1,9 @@
 #!/usr/bin/env python3
 """Proves the C library's exports and builds their archive, crates/gl_c/out/libgl_c.a.
 
-    library.py            over what earlier checks kept; libraries below that aren't proved are proved first
+    library.py            over libraries as ./goodlock builds them; those that aren't there are proved and built first
     library.py --proved   over the libraries as `rt ci` has just left them, proved in this run or an earlier one, which no
-                          other command takes; as without it, where rt ci put back those of earlier checks
+                          other command takes; where rt ci put back those of earlier checks, over what these kept
 
 Beside the archive stands libgl_c.sources, the sum of the sources that it was built from. The last line is `N passed, N
 failed`. Status: 0 built, 1 not built, 2 the words were wrong, 3 the toolchain at hand can't be used so.
@@ -18,6 +18,7 @@ import toolchain
 
 NAME = "gl_c"
 ARCHIVE = f"lib{NAME}.a"
+PROVE = os.path.join(toolchain.TOP, "tools/gate/prove.py")
 
 
 def sources():
@@ -42,8 +43,8 @@ def build_proved():
 
 
 def build_kept():
-    """Builds it with `rt lib`, once the libraries below are proved, several at once; the status."""
-    status = subprocess.run([os.path.join(toolchain.TOP, "tools/gate/prove.py"), NAME]).returncode
+    """Builds it with `rt lib`, once the libraries below are proved over what was kept; the status."""
+    status = subprocess.run([PROVE, "--kept", NAME]).returncode
     return status or subprocess.run(["rt", "lib"], cwd=os.path.join(toolchain.TOP, "crates", NAME)).returncode
 
 
@@ -53,7 +54,7 @@ def main(words):
         return 2
     try:
         of = sources()
-        status = build_proved() if words else build_kept()
+        status = build_proved() if words else subprocess.run([PROVE, NAME]).returncode
     except toolchain.NoToolchain as error:
         print(f"{error}", file=sys.stderr)
         return 3

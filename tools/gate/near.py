@@ -50,7 +50,7 @@ def is_laid_out(library, crate):
 
 def prove_whole(library, crate, jobs):
     """Proves a crate over what was kept, and its tests where it has any; whether it is proved, and what was said."""
-    well, said = prove.build_library(library, crate, jobs) if crate.makes_rlib() else (True, "")
+    well, said = prove.build_kept(library, crate, jobs) if crate.makes_rlib() else (True, "")
     with tempfile.TemporaryFile("w+", errors="replace") as crate.out:
         for flags in [[]] * (not crate.makes_rlib()) + [["--test"]] * crate.has_tests():
             well = well and crate.check([*flags, "--jobs", str(jobs)]) == 0

@@ -1,22 +1,25 @@
 #!/usr/bin/env python3
-"""Proves the program's libraries, several at once, over what earlier checks kept.
+"""Proves crates, several at once, with all that they stand on, and builds what they make.
 
-    prove.py [--jobs N] [CRATE ..]      (the program goodlock, where no crate is named)
+    prove.py [--jobs N] [CRATE ..]             the program goodlock, where no crate is named
+    prove.py --kept [--jobs N] [CRATE ..]      the libraries among them alone, over what earlier checks kept
+
+A library is built without its proofs, which the checks above would read; it stays where it is, but of one that changed
+nothing is kept. With --kept, what earlier checks of a crate kept is taken, function by function, and its library is built
+with its proofs, as `rt check` and `rt lib` take it.
 
 A crate begins once those that it stands on are proved, the one that leads the longest chain first. On one of the longest
 chains, which say when the last crate is done, it gets as many processes as --jobs says (one for each processor, as long as
 there is memory for them); where several of them are to run at once, they share twice as many. Any other gets one, which
 is the cheapest, and the more lines it could begin later by, the more it stands back: a check begins and ends with one
 process alone, and what stands beside it fills the others' time. Twice as many processes as --jobs says run at once at the
-most. Programs themselves are left to `rt run`. Standard output has a
-line for each crate that is done, and what a check said that failed. Status: 0 proved, 1 not proved, 2 the words were
-wrong, 3 the toolchain at hand can't be used so.
+most. Standard output has a line for each crate that is done, and what a check said that failed. Status: 0 proved and
+built, 1 not, 2 the words were wrong, 3 the toolchain at hand can't be used so.
 """
 
 import argparse
 import os
 import sys
-import tempfile
 import threading
 import time
 from concurrent.futures import FIRST_COMPLETED, Future, wait
@@ -115,24 +118,21 @@ def begun(work, crate, jobs, nice):
     return answer
 
 
-def build_library(library, crate, jobs):
+def build_kept(library, crate, jobs):
     """Proves a crate and builds its library, over what was kept; whether it is proved, and what was said."""
-    with tempfile.TemporaryFile("w+", errors="replace") as crate.out:
-        try:
-            os.makedirs(os.path.join(crate.folder, "out"), exist_ok=True)
-            library.stop_on_text(crate, "check")
-            status = crate.build_rlib(["--jobs", str(jobs)], anew=False)
-        except SystemExit:  # the toolchain's way to refuse a text; it has said why on standard error
-            status = 1
-        crate.out.seek(0)
-        return status == 0, crate.out.read()
+    return toolchain.told(crate, lambda: crate.build_rlib(["--jobs", str(jobs)], anew=False), library)
 
 
-def prove(library, names, processes, told):
-    """Proves the libraries among the crates with these names and those below them; whether all are proved."""
-    crates = [crate for crate in toolchain.crates(library, names) if crate.makes_rlib()]
+def prove(library, names, processes, is_kept, told):
+    """Proves the crates with these names and those below them, and builds what they make; whether all is there."""
+    crates = toolchain.crates(library, names)
+    if is_kept:
+        crates = [crate for crate in crates if crate.makes_rlib()]
+        work = lambda crate, jobs: build_kept(library, crate, jobs)
+    else:
+        work = toolchain.Statements(library, crates).build
     library.lock(crates)
-    return in_order(crates, processes, lambda crate, jobs: build_library(library, crate, jobs), told)
+    return in_order(crates, processes, work, told)
 
 
 def tell(crate, jobs, well, said, seconds):
@@ -144,12 +144,13 @@ def tell(crate, jobs, well, said, seconds):
 def main(words):
     parser = argparse.ArgumentParser(usage=__doc__)
     parser.add_argument("--jobs", type=int, default=0)
+    parser.add_argument("--kept", action="store_true")
     parser.add_argument("names", nargs="*")
     asked = parser.parse_args(words)
     try:
         library = toolchain.load()
         processes = asked.jobs if asked.jobs > 0 else toolchain.processors()
-        return 0 if prove(library, asked.names or ["goodlock"], processes, tell) else 1
+        return 0 if prove(library, asked.names or ["goodlock"], processes, asked.kept, tell) else 1
     except toolchain.NoToolchain as error:
         print(f"{error}", file=sys.stderr)
         return 3

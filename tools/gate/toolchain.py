@@ -10,8 +10,8 @@ import os
 import pathlib
 import re
 import shutil
-import subprocess
 import sys
+import tempfile
 
 TOP = os.path.dirname(os.path.dirname(os.path.dirname(os.path.realpath(__file__))))
 MEMORY_OF_A_CHECK = 4_500_000_000  # no check of this repository was seen to take more than 4.3 GB
@@ -82,7 +82,8 @@ def processors():
 
 class Statements:
     """The repository's libraries as the gate builds them: with what they state and without their proofs, which a crate
-    above would read as it is checked. They are kept beside those that `rt check` builds."""
+    above would read as it is checked. They are kept beside those that `rt check` builds; of a crate that changed nothing
+    is kept."""
 
     def __init__(self, library, crates):
         self.library = library
@@ -96,17 +97,47 @@ class Statements:
         return lambda *flags, **how: [own.sub(r"\1/statements", word) for word in words(*flags, **how)]
 
     def build(self, crate, jobs):
-        """Proves a crate from nothing, where its library isn't there yet; whether it is there, and what was said."""
+        """Proves a crate from nothing and builds what it is to make: a library, where that isn't there yet, a program or
+        an archive; whether that is there, and what was said."""
+        make = self.make_library if crate.makes_rlib() else self.make_archive if crate.is_static else self.make_program
+        return told(crate, lambda: make(crate, jobs), self.library)
+
+    def make_library(self, crate, jobs):
         folder = os.path.join(crate.folder, "out", "statements")
         kept, stamp = pathlib.Path(folder, "stamp"), crate.stamp()
         if kept.is_file() and kept.read_text() == stamp:
-            return True, ""
+            return 0
         shutil.rmtree(folder, ignore_errors=True)
         os.makedirs(folder)
-        words = crate.words(["--jobs", str(jobs)], keeps=False)
-        command = [self.library.RATTLE, "build", *words, "--statements", "-o", f"{folder}/{crate.name}.rlib"]
-        pipe = {"stdin": subprocess.DEVNULL, "stdout": subprocess.PIPE, "stderr": subprocess.STDOUT}
-        done = subprocess.run(command, cwd=crate.folder, text=True, errors="replace", **pipe)
-        if done.returncode == 0:
+        status = self.make(crate, jobs, f"{folder}/{crate.name}.rlib", "--statements")
+        if status == 0:
             kept.write_text(stamp)
-        return done.returncode == 0, done.stdout
+        return status
+
+    def make_archive(self, crate, jobs):
+        return self.make(crate, jobs, f"out/lib{crate.name}.a", "--toolchain", f"{self.library.KIT}/toolchain")
+
+    def make_program(self, crate, jobs):
+        kit, program = self.library.KIT, f"out/{crate.name}"
+        compiler = ["--toolchain", f"{kit}/toolchain"]
+        linked = [f"{program}.o", f"{kit}/c/libos_c.a", f"{kit}/c/liblibc_c.a"]
+        link = [f"{kit}/bin/rattle-link", "--target", "x86_64-unknown-linux-gnu", *compiler, "-o", program, *linked]
+        return self.make(crate, jobs, f"{program}.o", *compiler, "--backend", "llvm") or crate.call(*link)
+
+    def make(self, crate, jobs, what, *flags):
+        """Proves a crate from nothing, and builds this file of it; the status."""
+        words = crate.words(["--jobs", str(jobs)], keeps=False)
+        return crate.call(self.library.RATTLE, "build", *words, *flags, "-o", what)
+
+
+def told(crate, work, library):
+    """Whether the work on a crate ends with status 0, once its text isn't refused, and what was said."""
+    with tempfile.TemporaryFile("w+", errors="replace") as crate.out:
+        try:
+            os.makedirs(os.path.join(crate.folder, "out"), exist_ok=True)
+            library.stop_on_text(crate, "check")
+            status = work()
+        except SystemExit:  # the toolchain's way to refuse a text; it has said why on standard error
+            status = 1
+        crate.out.seek(0)
+        return status == 0, crate.out.read()
