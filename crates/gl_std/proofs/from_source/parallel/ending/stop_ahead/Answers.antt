@@ -1,7 +1,7 @@
 use Rattle.std.proofs.Common.{◌++◌, sym, subst}
 use Rattle.gl_std.specs.bodies.Ahead.{HearsFault}
 use Rattle.gl_std.proofs.PieceByPiece.{faulty_more}
-use Rattle.gl_std.proofs.from_source.parallel.stop_ahead.Goals as goal
+use Rattle.gl_std.proofs.from_source.parallel.ending.stop_ahead.Goals as goal
 
 -- the rest is read
 pub returns-in-More : goal.returns-in-More

@@ -8,7 +8,7 @@ use Rattle.gl_std.specs.bodies.States.{HasJudged}
 use Rattle.gl_std.specs.declared.faults.ReadFault.TheVariants.{Line}
 use Rattle.gl_std.proofs.HeardAhead.{faulty_parts, heard_whole}
 use Rattle.gl_std.proofs.PieceByPiece.{told_front}
-use Rattle.gl_std.proofs.from_source.parallel.finish_ahead.Goals as goal
+use Rattle.gl_std.proofs.from_source.parallel.ending.finish_ahead.Goals as goal
 
 -- all was read
 pub returns-then-is_whole : goal.returns-then-is_whole

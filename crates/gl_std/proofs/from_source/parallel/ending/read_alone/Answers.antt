@@ -3,7 +3,7 @@ use Rattle.gl_std.specs.Pieces.{IsFaulty}
 use Rattle.gl_std.specs.bodies.Ahead.{text_of}
 use Rattle.gl_std.specs.declared.faults.ReadFault.TheVariants.{Line}
 use Rattle.gl_std.proofs.HeardAhead.{faulty_parts, gone_fit, heard_rest}
-use Rattle.gl_std.proofs.from_source.parallel.read_alone.Goals as goal
+use Rattle.gl_std.proofs.from_source.parallel.ending.read_alone.Goals as goal
 
 pub read_on-requires : goal.read_on-requires
 read_on-requires g c = record {

@@ -1,6 +1,6 @@
 use Rattle.gl_std.specs.bodies.Ahead.{text_of}
 use Rattle.gl_std.proofs.HeardAhead.{ending_broke, ending_end, ending_more}
-use Rattle.gl_std.proofs.from_source.parallel.leave.Goals as goal
+use Rattle.gl_std.proofs.from_source.parallel.ending.leave.Goals as goal
 
 -- this thread goes on alone
 pub returns-in-More : goal.returns-in-More

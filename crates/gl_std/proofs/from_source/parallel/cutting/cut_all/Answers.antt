@@ -1,7 +1,7 @@
 use Rattle.std.proofs.Common.{◌≡◌, ◌<◌, ◌∙◌, length, sym, ap, subst, arith}
 use Rattle.gl_std.specs.bodies.Ahead.{bytes_of, IsCut, IsRightPiece, IsShort}
 use Rattle.gl_std.proofs.PiecesAhead.{text_alike}
-use Rattle.gl_std.proofs.from_source.parallel.cut_all.Goals as goal
+use Rattle.gl_std.proofs.from_source.parallel.cutting.cut_all.Goals as goal
 
 pub returns : goal.returns
 returns g c =

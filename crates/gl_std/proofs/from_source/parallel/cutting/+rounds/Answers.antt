@@ -1,7 +1,7 @@
 use Rattle.std.proofs.Common.{◌∷◌, suc, sym, subst, rules, arith}
 use Rattle.gl_std.specs.bodies.Ahead.{AreShort, HasCut}
 use Rattle.gl_std.proofs.PiecesAhead.{cut_both}
-use Rattle.gl_std.proofs.from_source.parallel.+rounds.Goals as goal
+use Rattle.gl_std.proofs.from_source.parallel.cutting.+rounds.Goals as goal
 
 pub cut_beside-join_mut-requires-after_bounds : goal.cut_beside-join_mut-requires-after_bounds
 cut_beside-join_mut-requires-after_bounds g t c κs within =

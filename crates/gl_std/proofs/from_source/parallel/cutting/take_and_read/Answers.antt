@@ -1,5 +1,5 @@
 use Rattle.gl_std.proofs.HeardAhead.{added_read, no_piece_short, stay_right}
-use Rattle.gl_std.proofs.from_source.parallel.take_and_read.Goals as goal
+use Rattle.gl_std.proofs.from_source.parallel.cutting.take_and_read.Goals as goal
 
 pub read_ahead-read-requires-clause-short : goal.read_ahead-read-requires-clause-short
 read_ahead-read-requires-clause-short g c = no_piece_short c.args.pieces.now.items c.requires.can_read.none

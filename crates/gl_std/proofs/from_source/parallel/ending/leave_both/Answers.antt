@@ -4,7 +4,7 @@ use Rattle.gl_std.specs.bodies.Ahead.{text_of, CanReadAhead, HearsEnding}
 use Rattle.gl_std.specs.declared.faults.ReadFault.TheVariants.{Line}
 use Rattle.gl_std.proofs.HeardAhead.{can_last, ending_both, ending_faulty, judged_on}
 use Rattle.gl_std.proofs.PiecesAhead.{right_pieces}
-use Rattle.gl_std.proofs.from_source.parallel.leave_both.Goals as goal
+use Rattle.gl_std.proofs.from_source.parallel.ending.leave_both.Goals as goal
 
 pub leave-requires : goal.leave-requires
 leave-requires g c =

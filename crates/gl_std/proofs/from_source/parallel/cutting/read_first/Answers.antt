@@ -1,5 +1,5 @@
 use Rattle.gl_std.proofs.HeardAhead.{no_piece_right, no_piece_short, read_cut}
-use Rattle.gl_std.proofs.from_source.parallel.read_first.Goals as goal
+use Rattle.gl_std.proofs.from_source.parallel.cutting.read_first.Goals as goal
 
 pub read_ahead-requires-clause-short : goal.read_ahead-requires-clause-short
 read_ahead-requires-clause-short g c = no_piece_short c.args.pieces.now.items c.requires.none

@@ -1,5 +1,5 @@
 use Rattle.std.proofs.Common.{◌+◌, ◌*◌, length}
-use Rattle.gl_std.proofs.from_source.parallel.+rounds.Given as goal
+use Rattle.gl_std.proofs.from_source.parallel.cutting.+rounds.Given as goal
 
 abbrev pub decreases-take_beside_cutting : goal.decreases-take_beside_cutting
 decreases-take_beside_cutting g l = 4 * length l.next.now
