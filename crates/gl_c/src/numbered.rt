@@ -4,11 +4,19 @@ ghost use Rattle.gl_c.specs.Numbered.{event_of_kind, refusal_code};
 ghost use Rattle.gl_c.specs.declared.codes.TheConstants.{FORK};
 
 use crate::codes::{
-    DEPTH_FULL, EVENTS_FULL, FORK, HELD_FULL, JOIN, NO_SUCH_THREAD, NOT_HELD, ON_ITSELF, UPGRADE,
+    ACQUIRE, DEPTH_FULL, EVENTS_FULL, FORK, HELD_FULL, JOIN, NO_SUCH_THREAD, NOT_HELD, ON_ITSELF,
+    RELEASE, TRY_ACQUIRE, UPGRADE,
 };
 use gl_event::{Event, LocId, LockId, LockMode, Refusal, ThreadId};
 
-// The event of this kind, one with a lock, at this place. The kinds go by two: an exclusive one and behind it its shared form.
+// The kinds of event with a lock go by two, an exclusive one and behind it its shared form. These are the numbers of the pairs.
+const ACQUIRES: u32 = ACQUIRE / 2;
+
+const RELEASES: u32 = RELEASE / 2;
+
+const TRY_ACQUIRES: u32 = TRY_ACQUIRE / 2;
+
+// The event of this kind, one with a lock, at this place.
 #[inline(always)]
 fn lock_event_of(kind: u32, lock: LockId, loc: LocId) -> Event
     requires { kind < FORK }
@@ -20,9 +28,9 @@ fn lock_event_of(kind: u32, lock: LockId, loc: LocId) -> Event
         LockMode::Shared
     };
     match kind / 2 {
-        0 => Event::Acquire { lock, mode, loc },
-        1 => Event::Release { lock, mode, loc },
-        2 => Event::TryAcquire { lock, mode, loc },
+        ACQUIRES => Event::Acquire { lock, mode, loc },
+        RELEASES => Event::Release { lock, mode, loc },
+        TRY_ACQUIRES => Event::TryAcquire { lock, mode, loc },
         _ => unreachable!(),
     }
 }

@@ -24,7 +24,7 @@ pub use ids::{LocId, LockId, ThreadId};
 pub use limits::{
     BadLimits, Limits, MAX_EVENTS, MAX_NAMES, MAX_RING, MAX_THREADS, limits_in_numbers,
 };
-pub use lists::{append, append_both, make_room};
+pub use lists::{append, append_both, keep_both, make_room};
 pub use notes::{Body, Note};
 pub use thread_state::ThreadState;
 

@@ -17,7 +17,6 @@ pub fn append<X: Copy>(xs: &mut Vec<X>, x: X) -> Result<(), Memory>
 
 /// Appends an element to each of two lists, or changes neither. Where both have room no memory is
 /// taken.
-#[inline(always)]
 pub fn append_both<X: Copy, Y: Copy>(
     xs: &mut Vec<X>,
     ys: &mut Vec<Y>,
@@ -31,13 +30,9 @@ pub fn append_both<X: Copy, Y: Copy>(
     ensures room { vec_len xs.old < vec_capacity xs.old → vec_len ys.old < vec_capacity ys.old
         → IsOk result }
 {
-    xs.reserve(1)?;
-    ys.push(y)?;
-    match xs.push(x) {
-        Ok(()) => Ok(()),
-        // there is room for one more
-        Err(_) => unreachable!(),
-    }
+    make_room(xs, ys)?;
+    keep_both(xs, ys, x, y);
+    Ok(())
 }
 
 /// Makes room for one more element in each of two lists, whose elements stay, so that the next
@@ -53,4 +48,17 @@ pub fn make_room<X: Copy, Y: Copy>(xs: &mut Vec<X>, ys: &mut Vec<Y>) -> Result<(
     xs.reserve(1)?;
     ys.reserve(1)?;
     Ok(())
+}
+
+/// Appends an element to each of two lists that have room for it. Each is written where it belongs: a call that may be
+/// refused memory gets its element on the stack, since it may hand it back.
+#[inline(always)]
+pub fn keep_both<X: Copy, Y: Copy>(xs: &mut Vec<X>, ys: &mut Vec<Y>, x: X, y: Y)
+    requires first_room { vec_len xs.old < vec_capacity xs.old }
+    requires second_room { vec_len ys.old < vec_capacity ys.old }
+    ensures first { xs.new.items ≡ xs.old.items ++ x ∷ [] }
+    ensures second { ys.new.items ≡ ys.old.items ++ y ∷ [] }
+{
+    xs.push_reserved(x);
+    ys.push_reserved(y);
 }

@@ -12,7 +12,8 @@ ghost use Rattle.gl_intake.specs.Stream.{events_of, has_ended, logs_of, AreInOrd
 
 use crate::notes::{Accepted, Refused};
 use gl_event::{
-    Body, Event, Limits, Memory, Note, ThreadId, ThreadState, append, append_both, make_room,
+    Body, Event, Limits, Memory, Note, ThreadId, ThreadState, append, append_both, keep_both,
+    make_room,
 };
 use gl_recorder::Taker;
 use std::alloc::Global;
@@ -154,19 +155,6 @@ fn fresh_cursors(alloc: Global, limits: &Limits) -> Result<Vec<ThreadCursor>, Me
         })?;
     }
     Ok(cursors)
-}
-
-// Appends an element to each of two lists that have room for it. Each is written where it belongs, which a call that may be refused
-// memory doesn't do.
-#[inline(always)]
-fn keep_both<X: Copy, Y: Copy>(xs: &mut Vec<X>, ys: &mut Vec<Y>, x: X, y: Y)
-    requires first_room { vec_len xs.old < vec_capacity xs.old }
-    requires second_room { vec_len ys.old < vec_capacity ys.old }
-    ensures first { xs.new.items ≡ xs.old.items ++ x ∷ [] }
-    ensures second { ys.new.items ≡ ys.old.items ++ y ∷ [] }
-{
-    xs.push_reserved(x);
-    ys.push_reserved(y);
 }
 
 impl Intake {
