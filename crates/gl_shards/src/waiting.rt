@@ -7,6 +7,9 @@ use std::{hint, thread};
 // After how many looks a waiting thread lets others run between two of them.
 const SPINS: u32 = 8;
 
+// After how many looks one sleeps that lets nobody run before.
+const LONG_SPINS: u32 = 10;
+
 // After how many it sleeps.
 const YIELDS: u32 = 64;
 
@@ -34,13 +37,16 @@ pub fn pause<R: Wait>(rt: &R, looks: u32) {
     spin(looks);
 }
 
-/// The same, but that it sleeps where [`pause`] lets others run, for as short as the system can. It is for who can
-/// wait for so long without holding up others, as one whose lane holds many notes.
+/// The same, but that it never lets others run: it spins four times as long, and then sleeps for as short as the system
+/// can. It is for who can wait for so long without holding up others, as one whose lane holds many notes.
+///
+/// The spinning takes as long as a collector needs for some hundred notes. A sleep takes 50 microseconds at the least, in
+/// which one that waits for these notes alone has none.
 ///
 /// Where other programs keep all processors busy, a thread that lets others run waits for their turns, of
 /// milliseconds each, and one that slept runs at once.
 pub fn pause_without_yielding<R: Wait>(rt: &R, looks: u32) {
-    if looks >= SPINS {
+    if looks >= LONG_SPINS {
         sleep(rt, SHORTEST_NAP);
         return;
     }
