@@ -11,7 +11,7 @@ use Rattle.gl_std.specs.LineReading.{HasGiven}
 use Rattle.gl_std.specs.Names.{NameLists}
 use Rattle.gl_std.specs.Pieces.{IsFaulty}
 use Rattle.gl_std.specs.Trace.{nothing}
-use Rattle.gl_std.specs.bodies.Ahead.{text_of, AreCut, AreRight, AreShort, CanCutAndJudge, CanJudge, CanReadAhead, FailsPiece, GivesOn, HasAddedPieces, HasCut, HasGoneOn, HasReadOn, HasReadPieces, HasReadTo, HearsEnding, HearsFault, HearsPieces, HearsRest, IsStillAhead, OnlyJudges, ReadsAhead, StayRight, TakesPiece}
+use Rattle.gl_std.specs.bodies.Ahead.{text_of, AreCut, AreRight, AreShort, CanCutAndJudge, CanJudge, CanReadAhead, FailsPiece, GivesOn, HasAddedPieces, HasCut, HasGoneOn, HasReadOn, HasReadPieces, HasReadTo, HearsEnding, HearsFault, HearsPieces, HearsRest, IsStillAhead, JudgesText, OnlyJudges, ReadsAhead, StayRight, TakesPiece}
 use Rattle.gl_std.specs.bodies.Hearing.{Hears, HearsOn, IsReading}
 use Rattle.gl_std.specs.bodies.States.{left_of, IsFit, IsSound, Reaches, ReadsOn}
 use Rattle.gl_std.specs.declared.faults.ReadFault.{ReadFault}
@@ -29,7 +29,7 @@ use Rattle.gl_std.specs.declared.line_reader.pieces.Piece.{Piece}
 use Rattle.gl_std.specs.declared.trace.Trace.{Trace}
 use Rattle.gl_std.proofs.LineByLine.{alike_reaches, append_nil, left_none}
 use Rattle.gl_std.proofs.PieceByPiece.{faulty_more}
-use Rattle.gl_std.proofs.PiecesAhead.{taken_no_piece}
+use Rattle.gl_std.proofs.PiecesAhead.{right_pieces, taken_no_piece}
 
 -- ---- the last pieces
 
@@ -196,10 +196,12 @@ added_read now later failed old new none pieces (Ok ending) empty added = record
   fewer = added.fewer;
 }
 
-pub stay_right : (names : NameLists) (spare none spare2 pieces : List Piece) (taken : Result (Unit {0}) ReadFault) (read : Result Ending AllocError) → none ≡ [] → OnOk taken (AreRight names spare) → OnOk read (StayRight spare none spare2 pieces) → OnOk taken (OnOk read (AreRight names pieces))
-stay_right names spare none spare2 pieces (Err f) read empty right stay = tt
-stay_right names spare none spare2 pieces (Ok done) (Err e) empty right stay = tt
-stay_right names spare none spare2 pieces (Ok done) (Ok ending) empty right stay = (stay names right (no_piece_right names none empty)).1
+-- pieces in the memory of those that were right before others were judged
+pub right_beside : (old new : LineReader) (lists lists2 : List (List Event)) (text : List ℕ) (spare none spare2 pieces : List Piece) (taken : Result (Unit {0}) ReadFault) (read : Result Ending AllocError) → none ≡ [] → AreRight old.judge.names spare → JudgesText old lists text new lists2 taken → OnOk read (StayRight spare none spare2 pieces) → OnOk taken (OnOk read (AreRight new.judge.names pieces))
+right_beside old new lists lists2 text spare none spare2 pieces (Err f) read empty right judged stay = tt
+right_beside old new lists lists2 text spare none spare2 pieces (Ok done) (Err e) empty right judged stay = tt
+right_beside old new lists lists2 text spare none spare2 pieces (Ok done) (Ok ending) empty right judged stay =
+    right_pieces old.judge.names new.judge.names pieces judged.only.grows (stay old.judge.names right (no_piece_right old.judge.names none empty)).1
 
 -- ---- a fault by its parts
 

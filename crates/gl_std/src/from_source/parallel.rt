@@ -1,8 +1,9 @@
 //! Reading the text that a source gives in several threads.
 //!
-//! One thread judges the pieces that were cut before, one after another, and then reads more in their memory, while
-//! the pieces between are cut into lines by the others. These number the names in each piece, and go on with the names
-//! of a piece that was judged: so the thread that judges looks each of them up once, and sees numbers else.
+//! One thread judges the pieces that were cut before, one after another. Meanwhile the next ones are cut into lines by
+//! the others, and the calling thread reads those after them, in the memory of pieces that were judged before. Those that
+//! cut number the names in each piece, and go on with the names of a piece that was judged: so the thread that judges
+//! looks each of them up once, and sees numbers else.
 //!
 //! The first piece is read before any thread is started, so that a text that ends in it costs what it costs one
 //! thread. Where a piece has many new names, cutting it ahead doesn't pay: its lines are judged from its text, and where
@@ -26,7 +27,7 @@ use std::thread::Threads;
 mod cutting;
 mod ending;
 
-use cutting::{Cutters, read_first, take_beside_list};
+use cutting::{Cutters, judge_beside_cutting, read_first};
 use ending::{goes_on, leave, leave_both, stop_ahead};
 
 // With fewer threads the calling one does all: two would wait for each other.
@@ -52,10 +53,11 @@ fn read_rounds<T: Threads + Sync, R: Source>(
         (HearsRest (R.position input.old) reader judge lists (text_of next.items)
         (R.position input.new) (R.failed input.new)) }
 {
+    let mut spare = Vec::new(cutters.alloc);
     let mut ahead = Vec::new(cutters.alloc);
     loop {
         let mut pieces = Vec::new(cutters.alloc);
-        let (taken, read) = take_beside_list(
+        let (taken, read) = judge_beside_cutting(
             rt,
             cutters,
             &mut judge,
@@ -63,6 +65,7 @@ fn read_rounds<T: Threads + Sync, R: Source>(
             &mut ahead,
             &mut reader,
             input,
+            &mut spare,
             &mut pieces,
             &mut next,
         );
@@ -87,6 +90,7 @@ fn read_rounds<T: Threads + Sync, R: Source>(
                 ending,
             );
         }
+        spare = ahead;
         ahead = next;
         next = pieces;
     }
@@ -128,8 +132,8 @@ fn read_ahead<T: Threads + Sync, R: Source>(
 /// calling thread reads, cuts and judges line by line, since two would wait for each other. So it does where the text
 /// ends in its first half megabyte, and from where it is seen that most names are new.
 ///
-/// Err where memory was refused. Beside what [`read_source`] keeps in memory, there are two pieces of half a megabyte
-/// for each thread that cuts: the text of each, cut into lines, and a table of at most 131,072 names beside its own.
+/// Err where memory was refused. Beside what [`read_source`] keeps in memory, there are three pieces of half a megabyte
+/// for each thread but one: the text of each, cut into lines, and a table of at most 131,072 names beside its own.
 pub fn read_source_parallel<T: Threads + Sync, R: Source>(
     rt: &T,
     alloc: Global,

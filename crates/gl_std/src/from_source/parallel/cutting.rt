@@ -1,8 +1,8 @@
-//! Cutting pieces of a text into lines, beside what judges those that were cut before.
+//! Reading pieces of a text and cutting them into lines, beside what judges those that were cut before.
 ghost use Rattle.std.specs.Prelude.{◌≡◌, ◌<◌, ◌≤◌, IfOk, OnOk};
 ghost use denote.Param.Send.{IsSync};
 ghost use Rattle.gl_std.specs.Names.{NameLists};
-ghost use Rattle.gl_std.specs.bodies.Ahead.{text_of, AreCut, AreRight, AreShort, CanJudge, CanReadPieces, HasCut, HasCutPiece, HasReadPieces, IsShort, JudgesText};
+ghost use Rattle.gl_std.specs.bodies.Ahead.{text_of, AreCut, AreRight, AreShort, CanJudge, CanReadPieces, HasCut, HasCutPiece, HasReadPieces, IsShort, JudgesText, StayRight};
 
 use crate::faults::ReadFault;
 use crate::line_reader::LineReader;
@@ -105,132 +105,111 @@ pub(super) fn read_first<T: Threads + Sync, R: Source>(
     Ok(ending)
 }
 
-// Judges the pieces that were cut before, and then reads the next ones in their memory.
-fn take_and_read<R: Source>(
+// Reads the next pieces, in the memory of those that are spare.
+fn read_next<R: Source>(
     cutters: Cutters,
-    judge: &mut LineReader,
-    lists: &mut Lists,
-    ahead: &mut Vec<Piece>,
     reader: &mut LineReader,
     input: &mut R,
+    spare: &mut Vec<Piece>,
     pieces: &mut Vec<Piece>,
-) -> (Result<(), ReadFault>, Result<Ending, AllocError>)
-    requires can { CanJudge judge.old ahead.old.items }
-    requires right { AreRight judge.old.judge.names ahead.old.items }
+) -> Result<Ending, AllocError>
     requires can_read { CanReadPieces cutters.threads
         reader.old (R.failed input.old) pieces.old.items }
-    ensures taken { JudgesText judge.old lists.old (text_of ahead.old.items)
-        judge.new lists.new result.0 }
-    ensures read { IfOk result.1
+    ensures read { IfOk result
         (HasReadPieces (R.position input.old) reader.old (R.position input.new)
         (R.failed input.new) reader.new pieces.new.items) }
-    ensures right { OnOk result.0
-        (OnOk result.1 (AreRight judge.new.judge.names pieces.new.items)) }
+    ensures right { OnOk result
+        (StayRight spare.old.items pieces.old.items spare.new.items pieces.new.items) }
 {
-    let alloc = cutters.alloc;
-    let taken = judge.take_pieces(alloc, lists, ahead);
-    let read = reader.read_ahead(alloc, input, ahead, pieces, cutters.threads);
-    (taken, read)
+    reader.read_ahead(cutters.alloc, input, spare, pieces, cutters.threads)
 }
 
-// Judges the pieces that were cut before and reads the next ones, while each of those between is cut in a thread of its
-// own. The calling thread starts them all: none waits until another one is there that starts it.
+// Reads the next pieces, in the memory of those that are spare, while each of some others is cut in a thread of its own.
+// The calling thread starts them all: none waits until another one is there that starts it.
 #[cycle(rounds)]
-fn take_beside_cutting<T: Threads + Sync, R: Source>(
+fn read_beside_cutting<T: Threads + Sync, R: Source>(
     rt: &T,
     cutters: Cutters,
-    judge: &mut LineReader,
-    lists: &mut Lists,
-    ahead: &mut Vec<Piece>,
     reader: &mut LineReader,
     input: &mut R,
+    spare: &mut Vec<Piece>,
     pieces: &mut Vec<Piece>,
     next: &mut [Piece],
-) -> (Result<(), ReadFault>, Result<Ending, AllocError>)
-    requires can { CanJudge judge.old ahead.old.items }
-    requires right { AreRight judge.old.judge.names ahead.old.items }
+) -> Result<Ending, AllocError>
     requires can_read { CanReadPieces cutters.threads
         reader.old (R.failed input.old) pieces.old.items }
     requires short { AreShort next.old }
-    ensures taken { JudgesText judge.old lists.old (text_of ahead.old.items)
-        judge.new lists.new result.0 }
-    ensures read { IfOk result.1
+    ensures read { IfOk result
         (HasReadPieces (R.position input.old) reader.old (R.position input.new)
         (R.failed input.new) reader.new pieces.new.items) }
-    ensures right { OnOk result.0
-        (OnOk result.1 (AreRight judge.new.judge.names pieces.new.items)) }
+    ensures right { OnOk result
+        (StayRight spare.old.items pieces.old.items spare.new.items pieces.new.items) }
     ensures cut { HasCut next.old next.new }
 {
     match next.split_first_mut() {
-        Some((first, others)) => cut_beside(
-            rt, cutters, judge, lists, ahead, reader, input, pieces, first, others,
-        ),
-        None => take_and_read(cutters, judge, lists, ahead, reader, input, pieces),
+        Some((first, others)) => {
+            cut_beside(rt, cutters, reader, input, spare, pieces, first, others)
+        }
+        None => read_next(cutters, reader, input, spare, pieces),
     }
 }
 
-// The same, where the first one of those between stands apart.
+// The same, where the first one of those others stands apart. The last of them is cut by the calling thread, once it has
+// read.
 #[cycle(rounds)]
 fn cut_beside<T: Threads + Sync, R: Source>(
     rt: &T,
     cutters: Cutters,
-    judge: &mut LineReader,
-    lists: &mut Lists,
-    ahead: &mut Vec<Piece>,
     reader: &mut LineReader,
     input: &mut R,
+    spare: &mut Vec<Piece>,
     pieces: &mut Vec<Piece>,
     first: &mut Piece,
     others: &mut [Piece],
-) -> (Result<(), ReadFault>, Result<Ending, AllocError>)
-    requires can { CanJudge judge.old ahead.old.items }
-    requires right { AreRight judge.old.judge.names ahead.old.items }
+) -> Result<Ending, AllocError>
     requires can_read { CanReadPieces cutters.threads
         reader.old (R.failed input.old) pieces.old.items }
     requires short { IsShort first.old }
     requires others_short { AreShort others.old }
-    ensures taken { JudgesText judge.old lists.old (text_of ahead.old.items)
-        judge.new lists.new result.0 }
-    ensures read { IfOk result.1
+    ensures read { IfOk result
         (HasReadPieces (R.position input.old) reader.old (R.position input.new)
         (R.failed input.new) reader.new pieces.new.items) }
-    ensures right { OnOk result.0
-        (OnOk result.1 (AreRight judge.new.judge.names pieces.new.items)) }
+    ensures right { OnOk result
+        (StayRight spare.old.items pieces.old.items spare.new.items pieces.new.items) }
     ensures cut { HasCutPiece first.old first.new }
     ensures others_cut { HasCut others.old others.new }
 {
     let (alloc, seed, cuts) = (cutters.alloc, cutters.seed, cutters.cuts);
+    if others.is_empty() {
+        let ending = read_next(cutters, reader, input, spare, pieces);
+        first.cut(alloc, seed, cuts);
+        return ending;
+    }
     let mut cutting = ||
         requires { IsShort first.now }
         ensures { HasCutPiece first.entry.now first.exit.now }
     { first.cut(alloc, seed, cuts) };
-    let mut going_on = || -> (Result<(), ReadFault>, Result<Ending, AllocError>)
+    let mut going_on = || -> Result<Ending, AllocError>
         requires sync { IsSync T.row }
-        requires can { CanJudge judge.now ahead.now.items }
-        requires right { AreRight judge.now.judge.names ahead.now.items }
         requires can_read { CanReadPieces cutters.threads
             reader.now (R.failed input.now) pieces.now.items }
         requires short { AreShort others.now }
-        ensures taken { JudgesText judge.entry.now lists.entry.now (text_of ahead.entry.now.items)
-            judge.exit.now lists.exit.now result.0 }
-        ensures read { IfOk result.1
+        ensures read { IfOk result
             (HasReadPieces (R.position input.entry.now) reader.entry.now
             (R.position input.exit.now) (R.failed input.exit.now) reader.exit.now
             pieces.exit.now.items) }
-        ensures right { OnOk result.0
-            (OnOk result.1 (AreRight judge.exit.now.judge.names pieces.exit.now.items)) }
+        ensures right { OnOk result
+            (StayRight spare.entry.now.items pieces.entry.now.items spare.exit.now.items
+            pieces.exit.now.items) }
         ensures cut { HasCut others.entry.now others.exit.now }
-    {
-        take_beside_cutting(
-            rt, cutters, judge, lists, ahead, reader, input, pieces, others,
-        )
-    };
-    let ((), both) = join_mut(rt, &mut cutting, &mut going_on);
-    both
+    { read_beside_cutting(rt, cutters, reader, input, spare, pieces, others) };
+    let ((), ending) = join_mut(rt, &mut cutting, &mut going_on);
+    ending
 }
 
-// As `take_beside_cutting`, of all pieces of a list.
-pub(super) fn take_beside_list<T: Threads + Sync, R: Source>(
+// Judges the pieces that were cut before in a thread of its own, while the next ones are cut and those after them are read,
+// in the memory of pieces that are spare.
+pub(super) fn judge_beside_cutting<T: Threads + Sync, R: Source>(
     rt: &T,
     cutters: Cutters,
     judge: &mut LineReader,
@@ -238,16 +217,19 @@ pub(super) fn take_beside_list<T: Threads + Sync, R: Source>(
     ahead: &mut Vec<Piece>,
     reader: &mut LineReader,
     input: &mut R,
+    spare: &mut Vec<Piece>,
     pieces: &mut Vec<Piece>,
     next: &mut Vec<Piece>,
 ) -> (Result<(), ReadFault>, Result<Ending, AllocError>)
     requires can { CanJudge judge.old ahead.old.items }
     requires right { AreRight judge.old.judge.names ahead.old.items }
+    requires spare_right { AreRight judge.old.judge.names spare.old.items }
     requires can_read { CanReadPieces cutters.threads
         reader.old (R.failed input.old) pieces.old.items }
     requires short { AreShort next.old.items }
     ensures taken { JudgesText judge.old lists.old (text_of ahead.old.items)
         judge.new lists.new result.0 }
+    ensures judged { OnOk result.0 (AreRight judge.new.judge.names ahead.new.items) }
     ensures read { IfOk result.1
         (HasReadPieces (R.position input.old) reader.old (R.position input.new)
         (R.failed input.new) reader.new pieces.new.items) }
@@ -255,15 +237,36 @@ pub(super) fn take_beside_list<T: Threads + Sync, R: Source>(
         (OnOk result.1 (AreRight judge.new.judge.names pieces.new.items)) }
     ensures cut { HasCut next.old.items next.new.items }
 {
-    take_beside_cutting(
-        rt,
-        cutters,
-        judge,
-        lists,
-        ahead,
-        reader,
-        input,
-        pieces,
-        next.as_mut_slice(),
-    )
+    let alloc = cutters.alloc;
+    let mut judging = || -> Result<(), ReadFault>
+        requires can { CanJudge judge.now ahead.now.items }
+        requires right { AreRight judge.now.judge.names ahead.now.items }
+        ensures taken { JudgesText judge.entry.now lists.entry.now (text_of ahead.entry.now.items)
+            judge.exit.now lists.exit.now result }
+        ensures judged { OnOk result (AreRight judge.exit.now.judge.names ahead.exit.now.items) }
+    { judge.take_pieces(alloc, lists, ahead) };
+    let mut cutting = || -> Result<Ending, AllocError>
+        requires can_read { CanReadPieces cutters.threads
+            reader.now (R.failed input.now) pieces.now.items }
+        requires short { AreShort next.now.items }
+        ensures read { IfOk result
+            (HasReadPieces (R.position input.entry.now) reader.entry.now
+            (R.position input.exit.now) (R.failed input.exit.now) reader.exit.now
+            pieces.exit.now.items) }
+        ensures right { OnOk result
+            (StayRight spare.entry.now.items pieces.entry.now.items spare.exit.now.items
+            pieces.exit.now.items) }
+        ensures cut { HasCut next.entry.now.items next.exit.now.items }
+    {
+        read_beside_cutting(
+            rt,
+            cutters,
+            reader,
+            input,
+            spare,
+            pieces,
+            next.as_mut_slice(),
+        )
+    };
+    join_mut(rt, &mut judging, &mut cutting)
 }

@@ -18,13 +18,14 @@ loop-pieces-init g c =
       short = no_piece_short c.new-ahead.result.items c.new-ahead.ensures.items;
       cut = no_piece_cut c.new-ahead.result.items c.new-ahead.ensures.items;
       right = no_piece_right names c.new-ahead.result.items c.new-ahead.ensures.items;
+      spare_right = no_piece_right names c.new-spare.result.items c.new-spare.ensures.items;
       next_short = c.requires.short;
       next_right = c.requires.right;
       not_failed = c.requires.not_failed;
     }
 
-pub take_beside_list-taken-requires-clause-can : goal.take_beside_list-taken-requires-clause-can
-take_beside_list-taken-requires-clause-can g c κs within =
+pub judge_beside_cutting-taken-requires-clause-can : goal.judge_beside_cutting-taken-requires-clause-can
+judge_beside_cutting-taken-requires-clause-can g c κs within =
     let so_far = c.loop-pieces.invariant in
     can_take c.loop-pieces.reader c.loop-pieces.judge c.loop-pieces.ahead.items (text_of c.loop-pieces.next.items) so_far.can so_far.short so_far.cut
 
@@ -32,7 +33,7 @@ take_beside_list-taken-requires-clause-can g c κs within =
 pub loop-pieces-preserved : goal.loop-pieces-preserved
 loop-pieces-preserved g c =
     let so_far = c.loop-pieces.invariant in
-    let call = c.take_beside_list-taken in
+    let call = c.judge_beside_cutting-taken in
     let f = c.loop-pieces.reader in
     let j = c.loop-pieces.judge in
     let f2 = call.new.reader in
@@ -57,6 +58,7 @@ loop-pieces-preserved g c =
       short = cut.short;
       cut = cut.cut;
       right = right_pieces j.judge.names j2.judge.names call.new.next.items only.grows (cut.right j.judge.names so_far.next_right);
+      spare_right = subst (λ r. OnOk r (AreRight j2.judge.names call.new.ahead.items)) c.in-Ok.is call.ensures.judged;
       next_short = read.short;
       next_right = right;
       not_failed = on.gives.0;
@@ -66,7 +68,7 @@ loop-pieces-preserved g c =
 pub returns-in-Err-Line : goal.returns-in-Err-Line
 returns-in-Err-Line g c =
     let so_far = c.loop-pieces.invariant in
-    let call = c.take_beside_list-taken in
+    let call = c.judge_beside_cutting-taken in
     let f = c.loop-pieces.reader in
     let j = c.loop-pieces.judge in
     let f2 = call.new.reader in
@@ -85,7 +87,7 @@ returns-in-Err-Line g c =
 pub leave_both-requires-clause-can : goal.leave_both-requires-clause-can
 leave_both-requires-clause-can g c κs within =
     let so_far = c.loop-pieces.invariant in
-    let call = c.take_beside_list-taken in
+    let call = c.judge_beside_cutting-taken in
     let f = c.loop-pieces.reader in
     let j = c.loop-pieces.judge in
     let f2 = call.new.reader in
@@ -103,7 +105,7 @@ leave_both-requires-clause-can g c κs within =
 pub leave_both-requires-clause-right : goal.leave_both-requires-clause-right
 leave_both-requires-clause-right g c κs within =
     let so_far = c.loop-pieces.invariant in
-    let call = c.take_beside_list-taken in
+    let call = c.judge_beside_cutting-taken in
     let f = c.loop-pieces.reader in
     let j = c.loop-pieces.judge in
     let f2 = call.new.reader in
@@ -120,7 +122,7 @@ leave_both-requires-clause-right g c κs within =
 pub leave_both-requires-clause-next : goal.leave_both-requires-clause-next
 leave_both-requires-clause-next g c κs within =
     let so_far = c.loop-pieces.invariant in
-    let call = c.take_beside_list-taken in
+    let call = c.judge_beside_cutting-taken in
     let f = c.loop-pieces.reader in
     let j = c.loop-pieces.judge in
     let f2 = call.new.reader in
@@ -142,7 +144,7 @@ leave_both-requires-clause-next g c κs within =
 pub leave_both-requires-clause-room : goal.leave_both-requires-clause-room
 leave_both-requires-clause-room g c κs within =
     let so_far = c.loop-pieces.invariant in
-    let call = c.take_beside_list-taken in
+    let call = c.judge_beside_cutting-taken in
     let f = c.loop-pieces.reader in
     let j = c.loop-pieces.judge in
     let f2 = call.new.reader in
@@ -161,7 +163,7 @@ leave_both-requires-clause-room g c κs within =
 pub leave_both-requires-clause-on : goal.leave_both-requires-clause-on
 leave_both-requires-clause-on g c κs within =
     let so_far = c.loop-pieces.invariant in
-    let call = c.take_beside_list-taken in
+    let call = c.judge_beside_cutting-taken in
     let f = c.loop-pieces.reader in
     let j = c.loop-pieces.judge in
     let f2 = call.new.reader in
@@ -179,7 +181,7 @@ leave_both-requires-clause-on g c κs within =
 pub leave_both-requires-clause-not_failed : goal.leave_both-requires-clause-not_failed
 leave_both-requires-clause-not_failed g c κs within =
     let so_far = c.loop-pieces.invariant in
-    let call = c.take_beside_list-taken in
+    let call = c.judge_beside_cutting-taken in
     let f = c.loop-pieces.reader in
     let j = c.loop-pieces.judge in
     let f2 = call.new.reader in
@@ -196,7 +198,7 @@ leave_both-requires-clause-not_failed g c κs within =
 pub returns-then-not-goes_on : goal.returns-then-not-goes_on
 returns-then-not-goes_on g c =
     let so_far = c.loop-pieces.invariant in
-    let call = c.take_beside_list-taken in
+    let call = c.judge_beside_cutting-taken in
     let f = c.loop-pieces.reader in
     let j = c.loop-pieces.judge in
     let f2 = call.new.reader in

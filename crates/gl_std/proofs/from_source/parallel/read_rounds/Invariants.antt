@@ -9,6 +9,7 @@ invariant-loop-pieces g l = record {
   short : AreShort l.ahead.items;
   cut : AreCut l.ahead.items;
   right : AreRight l.judge.judge.names l.ahead.items;
+  spare_right : AreRight l.judge.judge.names l.spare.items;
   next_short : AreShort l.next.items;
   next_right : AreRight l.judge.judge.names l.next.items;
   not_failed : g.R.Source.failed l.input ≡ false;
