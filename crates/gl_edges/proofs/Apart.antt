@@ -10,7 +10,7 @@ use Rattle.std.specs.declared.cmp.Ordering.{Ordering}
 use Rattle.std.specs.declared.cmp.Ordering.TheVariants.{Less}
 use Rattle.std.proofs.Math.Seq.{take-add}
 use Rattle.std.proofs.lemmas.Grind.{flat_map-append}
-use Rattle.std.proofs.lemmas.List.{drop-drop, drop-map, take-map, take_rest, length-drop, length-take-le}
+use Rattle.std.proofs.lemmas.List.{append-nil, drop-drop, drop-map, take-map, take_rest, length-drop, length-take-le}
 use Rattle.std.proofs.lemmas.Option.{slice_get_within}
 use Rattle.gl_event.specs.declared.events.Event.{Event}
 use Rattle.gl_event.specs.Modes.{mode_cmp}
@@ -241,3 +241,26 @@ all_shares lists shares pieces are is =
     ∙ flat_pieces (edges_of_share lists) shares
     ∙ edges_of_shares lists 0 shares (length lists) are (omega arith)
     ∙ ap (λ all. once (edges_made_from 0 all)) (take_rest lists 0)
+
+-- ---- a share of one list
+
+-- what has one element has the first one alone
+pub first_only : {X : Type 0} (xs : List X) (x : X) → 1 ≤ length xs → length xs < 2 → x ≡ get_or xs 0 x → xs ≡ x ∷ []
+first_only [] x some few is = absurd (omega (arith, some))
+first_only (y ∷ []) x some few is = ap (λ z. z ∷ []) (sym is)
+first_only (y ∷ (z ∷ rest)) x some few is = absurd (omega (arith, few))
+
+module _ {X : Type 0} (items : X → List Event) (lists : List X) (share : Share) (x : X) (only : take (share.to - share.from) (drop share.from lists) ≡ x ∷ []) where
+  -- it is one of all lists
+  pub only_list : slice_get (map items lists) share.from ≡ Some (items x)
+  only_list =
+      let there : share.from + 0 ≡ share.from = omega arith in
+      subst (λ k. slice_get (map items lists) k ≡ Some (items x)) there
+      (list_of_share items lists share 0 (items x) (subst (λ xs. slice_get (map items xs) 0 ≡ Some (items x)) (sym only) refl))
+
+  -- and the edges of the share are those of that list
+  pub only_edges : once (edges_of_list share.from (items x)) ≡ edges_of_share (map items lists) share
+  only_edges =
+      sym
+      (ap (λ ls. once (edges_made_from share.from ls)) (map_share items lists share ∙ ap (map items) only)
+      ∙ ap once (append-nil (edges_of_list share.from (items x))))

@@ -18,7 +18,7 @@ use Rattle.gl_event.specs.declared.held.HeldEntry.{HeldEntry}
 use Rattle.gl_event.proofs.HeldLemmas.{entry_of-lock}
 use Rattle.gl_edges.proofs.Holding.{guards_are}
 use Rattle.gl_edges.specs.Guards.{guards_of}
-use Rattle.gl_edges.specs.Edges.{once, pair_at, edges_wanting, edges_after, edges_at, edges_below, edges_of_list, edges_made_from}
+use Rattle.gl_edges.specs.Edges.{once, pair_at, edges_wanting, edges_after, edges_at, edges_of_list, edges_made_from}
 use Rattle.gl_edges.specs.bodies.Tables.{IsTableOf}
 use Rattle.gl_edges.specs.Tracking.{Follows, IsNextFor}
 use Rattle.gl_edges.specs.bodies.Gatherers.{pair_for}
@@ -158,20 +158,6 @@ pub edges_at_is : (thread : ℕ) (es : List Event) (place : ℕ) (e : Event) →
 unfolding edges_at
 edges_at_is thread es place e at = ap (λ o. option_map_or (edges_after thread (take place es)) o []) at
 
--- the edges of one more place
-pub edges_below_more : (thread : ℕ) (es : List Event) (i : ℕ) (e : Event) → slice_get es i ≡ Some e → edges_below thread es (i + 1) ≡ edges_below thread es i ++ edges_after thread (take i es) e
-edges_below_more thread es i e at =
-    ap (edges_below thread es) add_one
-    ∙ ap (flat_map (edges_at thread es)) (range_push 0 i)
-    ∙ flat_map-append (edges_at thread es) (range_with_len 0 i) ((0 + i) ∷ [])
-    ∙ ap (λ xs. edges_below thread es i ++ xs) (append-nil (edges_at thread es (0 + i)) ∙ ap (edges_at thread es) from_zero ∙ edges_at_is thread es i e at)
-  where
-    add_one : i + 1 ≡ suc i
-    add_one = omega arith
-
-    from_zero : 0 + i ≡ i
-    from_zero = omega arith
-
 module _ (thread : ℕ) (es : List Event) (i : ℕ) (e : Event) (tracker : Tracker) (within : i < length es) (item : e ≡ get_or es i e) (tracked : Follows thread (take i es) tracker) where
   -- the event at its place
   at_place : slice_get es i ≡ Some e
@@ -188,19 +174,6 @@ module _ (thread : ℕ) (es : List Event) (i : ℕ) (e : Event) (tracker : Track
   -- and then follows one event more
   pub followed : (new : Tracker) → Follows thread (take i es ++ e ∷ []) new → Follows thread (take (i + 1) es) new
   followed new is = subst (λ xs. Follows thread xs new) (ap (λ x. take i es ++ x ∷ []) item ∙ sym (take_more es i e within)) is
-
-  -- the pairs then have the edges of one place more
-  pub pairs_event : (pairs : List (Edge × Sample)) → (pairs ++ edges_below thread es i) ++ edges_after thread (take i es) e ≡ pairs ++ edges_below thread es (i + 1)
-  pairs_event pairs = append_assoc pairs (edges_below thread es i) (edges_after thread (take i es) e) ∙ ap (λ xs. pairs ++ xs) (sym (edges_below_more thread es i e at_place))
-
--- before the first event
-pub tracks_start : (thread : ℕ) (es : List Event) (tracker : Tracker) → Follows thread [] tracker → Follows thread (take 0 es) tracker
-tracks_start thread es tracker is = is
-
--- the table has the edges of all places
-pub table_list : (known : List (Edge × Sample)) (pairs : List (Edge × Sample)) (thread : ℕ) (es : List Event) (i : ℕ) → i ≡ length es
-    → IsTableOf known (pairs ++ edges_below thread es i) → IsTableOf known (pairs ++ edges_of_list thread es)
-table_list known pairs thread es i all is = table_same known _ _ (ap (λ n. pairs ++ edges_below thread es n) all) is
 
 -- the last of several numbered elements
 enumerate_push : {X : Type 0} (n : ℕ) (xs : List X) (x : X) → enumerate_from n (xs ++ x ∷ []) ≡ enumerate_from n xs ++ (n + length xs, x) ∷ []

@@ -13,6 +13,7 @@ pub mod Holding
 pub mod Following
 pub mod Gathering
 pub mod Apart
+pub mod Parts
 pub mod Fronts
 pub mod Ways
 pub mod Remembering

@@ -186,9 +186,9 @@ gathers_acquire thread es tracker tracked wanted mode loc pairs gatherer free is
 pub no_edges : (thread : ℕ) (es : List Event) (event : Event) → wanted_lock event ≡ None → edges_after thread es event ≡ []
 no_edges thread es event none = ap (λ wanted. option_map_or (λ lock. edges_wanting thread es lock (lock_mode event) (location event)) wanted []) none
 
--- before the first event of a list
-pub gathers_start : (pairs : List (Edge × Sample)) (gatherer : Gatherer) → gatherer.seen ≡ [] → IsTableOf gatherer.batch pairs → Gathers (pairs ++ []) 0 gatherer
-gathers_start pairs gatherer none is = record {
+-- before the first event that it takes of a list
+pub gathers_start : (pairs : List (Edge × Sample)) (place : ℕ) (gatherer : Gatherer) → gatherer.seen ≡ [] → IsTableOf gatherer.batch pairs → Gathers (pairs ++ []) place gatherer
+gathers_start pairs place gatherer none is = record {
   table = subst (IsTableOf gatherer.batch) (sym (append-nil pairs)) is;
   seen = λ edge at. absurd (contains_none edge (subst (λ edges. Contains edges edge) none at));
 }

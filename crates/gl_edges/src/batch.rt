@@ -71,7 +71,14 @@ impl Batch {
     pub fn absorb(&mut self, alloc: Global, table: Table) -> Result<(), Memory>
         ensures { OnOk result (self.new ≡ once (self.old ++ table)) }
     {
-        let mut pairs = table.into_list(alloc)?.into_vec();
+        self.add_list(table.into_list(alloc)?)
+    }
+
+    /// Puts all edges of the list in, each with its sample. Where there is no memory for them none is in.
+    pub(crate) fn add_list(&mut self, list: EdgeList) -> Result<(), Memory>
+        ensures { OnOk result (self.new ≡ once (self.old ++ list)) }
+    {
+        let mut pairs = list.into_vec();
         self.pairs.append(&mut pairs)?;
         Ok(())
     }

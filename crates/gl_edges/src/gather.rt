@@ -1,12 +1,13 @@
 //! The edges of whole lists of events.
-ghost use Rattle.std.specs.Prelude.{◌≡◌, ◌≤◌, ◌+◌, ℕ, List, map, length, slice_get, Some, OnOk, IfOk};
+ghost use Rattle.std.specs.Prelude.{◌≡◌, ◌≤◌, ◌+◌, ℕ, List, [], map, length, slice_get, take, Some, OnOk, IfOk};
 ghost use Rattle.gl_event.specs.Bounds.{greatest};
 ghost use Rattle.gl_event.specs.Lawful.{AreLawful, IsLawful, lists_of};
 ghost use Rattle.gl_event.specs.declared.events.Event.{Event};
-ghost use Rattle.gl_edges.specs.Edges.{edges_after, edges_of_list, edges_made_from, once, edges};
+ghost use Rattle.gl_edges.specs.Edges.{edges_after, edges_made_from, once, edges};
 ghost use Rattle.gl_edges.specs.bodies.Gatherers.{HasGathered, pair_for};
+ghost use Rattle.gl_edges.specs.bodies.Sharing.{edges_between};
 ghost use Rattle.gl_edges.specs.bodies.Tables.{HasAdded};
-ghost use Rattle.gl_edges.specs.Tracking.{ForEachFollowed, HasAdvanced, IsNextFor};
+ghost use Rattle.gl_edges.specs.Tracking.{Follows, ForEachFollowed, HasAdvanced, IsNextFor};
 ghost use Rattle.gl_edges.specs.declared.edge.Edge.{Edge};
 ghost use Rattle.gl_edges.specs.declared.edge.Sample.{Sample};
 
@@ -32,6 +33,26 @@ struct Gatherer {
 }
 
 impl Gatherer {
+    // It has no edges.
+    fn new(alloc: Global) -> Gatherer
+        ensures { result.batch ≡ [] }
+    {
+        Gatherer {
+            batch: Batch::new(alloc),
+            edge: Edge {
+                thread: ThreadId::new(0),
+                held: LockId::new(0),
+                held_mode: LockMode::Exclusive,
+                wanted: LockId::new(0),
+                wanted_mode: LockMode::Exclusive,
+                first: 0,
+                second: 0,
+                guards: Guards::empty(alloc),
+            },
+            seen: Seen::new(alloc),
+        }
+    }
+
     // Puts in the edges of an acquire of a lock that the thread doesn't hold. Where it was made before
     // they are in already, with lesser samples.
     fn add_acquire(
@@ -122,19 +143,40 @@ impl Gatherer {
         Ok(())
     }
 
-    // Takes the events of a whole list.
-    fn take_list(&mut self, alloc: Global, thread: ThreadId, list: &[Event]) -> Result<(), Memory>
-        requires { IsLawful greatest thread list.now }
+    // Takes the events of a list at these places: from one on, up to another.
+    fn take_part(
+        &mut self,
+        alloc: Global,
+        thread: ThreadId,
+        list: &[Event],
+        from: usize,
+        to: usize,
+    ) -> Result<(), Memory>
+        requires lawful { IsLawful greatest thread list.now }
+        requires within { (from ≤ to) × (to ≤ length list.now) }
         ensures { OnOk result
-            (HasAdded (edges_of_list thread list.now) self.old.batch self.new.batch) }
+            (HasAdded (edges_between thread list.now from to) self.old.batch self.new.batch) }
     {
         self.seen.begin(thread);
-        let mut tracker = Tracker::new(thread);
-        for event in list {
-            self.take(alloc, &mut tracker, *event)?;
+        let mut tracker = follow(thread, list, from);
+        for place in from..to {
+            self.take(alloc, &mut tracker, list[place])?;
         }
         self.batch.end_list()
     }
+}
+
+// The thread after the events of its list up to a place.
+fn follow(thread: ThreadId, list: &[Event], to: usize) -> Tracker
+    requires lawful { IsLawful greatest thread list.now }
+    requires within { to ≤ length list.now }
+    ensures { Follows thread (take to list.now) result }
+{
+    let mut tracker = Tracker::new(thread);
+    for place in 0..to {
+        tracker.advance(list[place]);
+    }
+    tracker
 }
 
 /// The edges of these lists, whose threads are numbered from the first one on: each once, ascending, with
@@ -150,24 +192,31 @@ pub(crate) fn edges_from(
         → IsLawful greatest (first + index) es }
     ensures { IfOk result (λ l. l ≡ once (edges_made_from first (lists_of lists.now))) }
 {
-    let mut gatherer = Gatherer {
-        batch: Batch::new(alloc),
-        edge: Edge {
-            thread: ThreadId::new(0),
-            held: LockId::new(0),
-            held_mode: LockMode::Exclusive,
-            wanted: LockId::new(0),
-            wanted_mode: LockMode::Exclusive,
-            first: 0,
-            second: 0,
-            guards: Guards::empty(alloc),
-        },
-        seen: Seen::new(alloc),
-    };
+    let mut gatherer = Gatherer::new(alloc);
     for (index, list) in lists.iter().enumerate() {
         let thread = ThreadId::new(first + index as u32);
-        gatherer.take_list(alloc, thread, list.as_slice())?;
+        let list = list.as_slice();
+        gatherer.take_part(alloc, thread, list, 0, list.len())?;
     }
+    gatherer.batch.into_list()
+}
+
+/// The edges that the events of a thread's list make at these places: each once, ascending, with its least sample.
+///
+/// The events before them are gone through, without their edges.
+pub(crate) fn edges_of_part(
+    alloc: Global,
+    thread: ThreadId,
+    list: &[Event],
+    from: usize,
+    to: usize,
+) -> Result<EdgeList, Memory>
+    requires lawful { IsLawful greatest thread list.now }
+    requires within { (from ≤ to) × (to ≤ length list.now) }
+    ensures { IfOk result (λ l. l ≡ once (edges_between thread list.now from to)) }
+{
+    let mut gatherer = Gatherer::new(alloc);
+    gatherer.take_part(alloc, thread, list, from, to)?;
     gatherer.batch.into_list()
 }
 

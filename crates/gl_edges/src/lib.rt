@@ -26,6 +26,7 @@ mod guard_sets;
 mod guards;
 mod laws;
 mod list;
+mod long_list;
 mod marks;
 mod numberer;
 mod parallel;

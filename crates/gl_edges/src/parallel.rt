@@ -1,6 +1,7 @@
 //! The edges of whole lists of events, by several threads.
 ghost use Rattle.std.specs.Prelude.{◌≡◌, ◌≤◌, ◌<◌, ◌+◌, ⊤, map, length, IfOk, Ok};
 ghost use Rattle.std.specs.List.{flat_map};
+ghost use denote.Param.Send.{IsSync};
 ghost use Rattle.gl_event.specs.Bounds.{greatest};
 ghost use Rattle.gl_event.specs.Lawful.{AreLawful, lists_of};
 ghost use Rattle.gl_edges.specs.Edges.{edges};
@@ -10,7 +11,8 @@ ghost use Rattle.gl_edges.specs.declared.parallel.Share.{Share};
 use crate::edge::{Edge, Sample};
 use crate::gather::{edges_from, edges_of};
 use crate::list::EdgeList;
-use gl_event::{Event, Memory};
+use crate::long_list::edges_of_long_list;
+use gl_event::{Event, Memory, ThreadId};
 use rayon::prelude::*;
 use std::alloc::Global;
 use std::thread::Threads;
@@ -18,11 +20,11 @@ use std::thread::Threads;
 // Up to how many events one thread goes through: for so few, others don't pay.
 const ALONE: usize = 16_384;
 
-/// Lists that follow one another: from one position to another.
+/// Lists that follow one another, or events of a list that do: from one position to another.
 #[derive(Clone, Copy)]
-struct Share {
-    from: usize,
-    to: usize,
+pub(crate) struct Share {
+    pub(crate) from: usize,
+    pub(crate) to: usize,
 }
 
 // How many events the lists have.
@@ -34,7 +36,20 @@ fn events_in(lists: &[Vec<Event>]) -> usize {
     events
 }
 
-// The lists dealt out: each to the share in whose even part of all events its middle lies.
+// Whether a list of so many events is to be cut into parts: it has half as many again as an even part of all events.
+fn is_long(events: usize, even: usize) -> bool {
+    events >= even.saturating_add(even / 2)
+}
+
+// Whether this list or the one before it is to be cut into parts.
+fn stands_apart(lists: &[Vec<Event>], at: usize, even: usize) -> bool
+    requires { at < length lists.now }
+{
+    is_long(lists[at].len(), even) || at > 0 && is_long(lists[at - 1].len(), even)
+}
+
+// The lists dealt out: each to the share in whose even part of all events its middle lies. One that is to be cut stands
+// alone.
 fn deal(alloc: Global, lists: &[Vec<Event>], even: usize) -> Result<Vec<Share>, Memory>
     requires { 0 < even }
     ensures { IfOk result (λ shares. FollowOn 0 shares.items (length lists.now)) }
@@ -45,7 +60,8 @@ fn deal(alloc: Global, lists: &[Vec<Event>], even: usize) -> Result<Vec<Share>, 
     let mut before: usize = 0;
     for i in 0..lists.len() {
         let middle = before.saturating_add(lists[i].len() / 2);
-        if from < i && middle >= end {
+        let is_due = middle >= end || stands_apart(lists, i, even);
+        if from < i && is_due {
             shares.push(Share { from, to: i })?;
             from = i;
             end = (middle / even).saturating_add(1).saturating_mul(even);
@@ -62,7 +78,7 @@ fn deal(alloc: Global, lists: &[Vec<Event>], even: usize) -> Result<Vec<Share>, 
 }
 
 // What a chain gives for each of its items, in order, where each answers. Each item may have a thread of its own.
-fn gathered<I: IndexedParallelIterator<Item = Result<EdgeList, Memory>>>(
+pub(crate) fn gathered<I: IndexedParallelIterator<Item = Result<EdgeList, Memory>>>(
     rt: &(impl Threads + Sync),
     alloc: Global,
     chain: I,
@@ -74,13 +90,38 @@ fn gathered<I: IndexedParallelIterator<Item = Result<EdgeList, Memory>>>(
     found
 }
 
-// For each share of the lists its edges, by several threads.
-fn edges_of_each(
+// The edges of a share of the lists. A list that is to be cut is gone through by several threads.
+fn edges_of_one(
     rt: &(impl Threads + Sync),
     alloc: Global,
     lists: &[Vec<Event>],
+    share: Share,
+    even: usize,
+) -> Result<EdgeList, Memory>
+    requires some { 0 < even }
+    requires within { (share.from ≤ share.to) × (share.to ≤ length lists.now) }
+    requires lawful { AreLawful greatest (lists_of lists.now) }
+    ensures { IfOk result (λ l. l ≡ edges_of_share (lists_of lists.now) share) }
+{
+    let first = share.from as u32;
+    let shared = &lists[share.from..share.to];
+    if let [list] = shared {
+        if is_long(list.len(), even) {
+            return edges_of_long_list(rt, alloc, ThreadId::new(first), list.as_slice(), even);
+        }
+    }
+    edges_from(alloc, first, shared)
+}
+
+// For each share of the lists its edges, by several threads.
+fn edges_of_each<T: Threads + Sync>(
+    rt: &T,
+    alloc: Global,
+    lists: &[Vec<Event>],
     shares: &[Share],
+    even: usize,
 ) -> Result<Vec<EdgeList>, Memory>
+    requires some { 0 < even }
     requires lawful { AreLawful greatest (lists_of lists.now) }
     requires dealt { FollowOn 0 shares.now (length lists.now) }
     ensures { IfOk result
@@ -88,12 +129,14 @@ fn edges_of_each(
 {
     let chain = shares.par_iter().map(
         |share: &Share| -> Result<EdgeList, Memory>
-            requires { (share.now.from ≤ share.now.to)
-                × (share.now.to ≤ length lists.now)
-                × AreLawful greatest (lists_of lists.now) }
+            requires sync { IsSync T.row }
+            requires some { 0 < even }
+            requires within { (share.now.from ≤ share.now.to)
+                × (share.now.to ≤ length lists.now) }
+            requires lawful { AreLawful greatest (lists_of lists.now) }
             ensures { IfOk result
                 (λ l. l ≡ edges_of_share (lists_of lists.entry.now) share.now) }
-        { edges_from(alloc, share.from as u32, &lists[share.from..share.to]) },
+        { edges_of_one(rt, alloc, lists, *share, even) },
     );
     gathered(rt, alloc, chain)
 }
@@ -110,11 +153,11 @@ fn joined(alloc: Global, pieces: Vec<EdgeList>) -> Result<Vec<(Edge, Sample)>, M
     Ok(pairs)
 }
 
-/// The same as [`edges_of`], by so many threads, or one where there are few events or one list has nearly all. Each thread goes through
-/// lists that follow one another, about as many events as each other one does, since an edge of a lesser
-/// thread is below all edges of a greater one.
+/// The same as [`edges_of`], by so many threads, or one where there are few events. Each thread goes through lists that
+/// follow one another, about as many events as each other one does, since an edge of a lesser thread is below all edges
+/// of a greater one. A list that is longer than that is cut into parts, whose edges are merged.
 ///
-/// The longest list takes as long as it takes one thread.
+/// A thread that goes through a part of a list goes through the events before it, too, without their edges.
 pub fn edges_of_parallel(
     rt: &(impl Threads + Sync),
     alloc: Global,
@@ -128,11 +171,9 @@ pub fn edges_of_parallel(
     if threads < 2 || events <= ALONE {
         return edges_of(alloc, lists);
     }
-    let shares = deal(alloc, lists, events.div_ceil(threads))?;
-    if shares.len() < 2 {
-        return edges_of(alloc, lists);
-    }
-    let pieces = edges_of_each(rt, alloc, lists, shares.as_slice())?;
+    let even = events.div_ceil(threads);
+    let shares = deal(alloc, lists, even)?;
+    let pieces = edges_of_each(rt, alloc, lists, shares.as_slice(), even)?;
     let pairs = joined(alloc, pieces)?;
     Ok(EdgeList::from_ascending(pairs))
 }

@@ -1,4 +1,4 @@
-use Rattle.std.proofs.Common.{◌≡◌, map, Ok, ap, ◌∙◌, length}
+use Rattle.std.proofs.Common.{◌≡◌, map, Ok, ap, ◌∙◌, length, rules}
 use Rattle.std.proofs.lemmas.Result.{IfOk-weaker}
 use Rattle.std.specs.Prelude.{IfOk}
 use Rattle.rayon.proofs.ToStd.{slice-AllZip}
@@ -13,7 +13,7 @@ gathered-requires-clause-ready g c κs within =
     rw (slice, c.map-chain.ensures.f)
     (λ k d lt x is.
     let (forth, end) = share_within 0 c.args.shares.now (length c.args.lists.now) c.requires.dealt k d lt in
-    (rw is (forth, end, c.requires.lawful), λ y p. tt))
+    (rw is (search rules, (c.requires.some, ((forth, end), (c.requires.lawful, search rules)))), λ y p. tt))
 
 pub returns : goal.returns
 returns g c =
