@@ -67,9 +67,9 @@ returns-clause-ready c =
     let grounds = c.args.grounds.now in
     let walkers = c.in_ok-walkers.ensures in
     let given = subst (λ t. AreGrounds before mode len t grounds × AreLongest before mode len (edges_of_table t) (classes_of t) c.args.longest.now) (sym c.entries-table.ensures.pairs)
-          (subst (λ m. AreGrounds before m len c.args.edges.now grounds × AreLongest before m len (edges_of_table c.args.edges.now) (classes_of c.args.edges.now) c.args.longest.now) (sym c.mode-mode.ensures.value)
-           (subst (λ l. AreGrounds before c.args.query.now.mode l c.args.edges.now grounds × AreLongest before c.args.query.now.mode l (edges_of_table c.args.edges.now) (classes_of c.args.edges.now) c.args.longest.now) (sym c.len.ensures.value)
-            (c.requires.grounds, c.requires.longest))) in
+    (subst (λ m. AreGrounds before m len c.args.edges.now grounds × AreLongest before m len (edges_of_table c.args.edges.now) (classes_of c.args.edges.now) c.args.longest.now) (sym c.mode-mode.ensures.value)
+    (subst (λ l. AreGrounds before c.args.query.now.mode l c.args.edges.now grounds × AreLongest before c.args.query.now.mode l (edges_of_table c.args.edges.now) (classes_of c.args.edges.now) c.args.longest.now) (sym c.len.ensures.value)
+    (c.requires.grounds, c.requires.longest))) in
     let kept : c.in_ok-walkers.walkers.kept.ground.flags.now ≡ grounds.kept.items = ap (λ (ground : Ground). ground.flags.now) walkers.kept ∙ c.as_slice.ensures.value in
     let models : c.in_ok-walkers.walkers.models.ground.flags.now ≡ grounds.models.items = ap (λ (ground : Ground). ground.flags.now) walkers.models ∙ c.as_slice-2.ensures.value in
     let told = c.as_slice-classes.ensures.value ∙ given.0.same_classes in
