@@ -27,7 +27,7 @@ use std::thread::Threads;
 mod cutting;
 mod ending;
 
-use cutting::{Cutters, judge_beside_cutting, read_first};
+use cutting::{Cutters, judge_beside_list, read_first};
 use ending::{goes_on, leave, leave_both, stop_ahead};
 
 // With fewer threads the calling one does all: two would wait for each other.
@@ -57,7 +57,7 @@ fn read_rounds<T: Threads + Sync, R: Source>(
     let mut ahead = Vec::new(cutters.alloc);
     loop {
         let mut pieces = Vec::new(cutters.alloc);
-        let (taken, read) = judge_beside_cutting(
+        let (taken, read) = judge_beside_list(
             rt,
             cutters,
             &mut judge,
@@ -128,9 +128,10 @@ fn read_ahead<T: Threads + Sync, R: Source>(
     )
 }
 
-/// As [`read_source`], in so many threads: what is heard doesn't depend on their number. With fewer than three the
-/// calling thread reads, cuts and judges line by line, since two would wait for each other. So it does where the text
-/// ends in its first half megabyte, and from where it is seen that most names are new.
+/// As [`read_source`], in so many threads beside the calling one, which only reads then: what is heard doesn't depend on
+/// their number. With fewer than three the calling thread reads, cuts and judges line by line, since two would wait for
+/// each other. So it does where the text ends in its first half megabyte, and from where it is seen that most names are
+/// new.
 ///
 /// Err where memory was refused. Beside what [`read_source`] keeps in memory, there are three pieces of half a megabyte
 /// for each thread but one: the text of each, cut into lines, and a table of at most 131,072 names beside its own.

@@ -154,8 +154,7 @@ fn read_beside_cutting<T: Threads + Sync, R: Source>(
     }
 }
 
-// The same, where the first one of those others stands apart. The last of them is cut by the calling thread, once it has
-// read.
+// The same, where the first one of those others stands apart.
 #[cycle(rounds)]
 fn cut_beside<T: Threads + Sync, R: Source>(
     rt: &T,
@@ -180,11 +179,6 @@ fn cut_beside<T: Threads + Sync, R: Source>(
     ensures others_cut { HasCut others.old others.new }
 {
     let (alloc, seed, cuts) = (cutters.alloc, cutters.seed, cutters.cuts);
-    if others.is_empty() {
-        let ending = read_next(cutters, reader, input, spare, pieces);
-        first.cut(alloc, seed, cuts);
-        return ending;
-    }
     let mut cutting = ||
         requires { IsShort first.now }
         ensures { HasCutPiece first.entry.now first.exit.now }
@@ -207,9 +201,176 @@ fn cut_beside<T: Threads + Sync, R: Source>(
     ending
 }
 
-// Judges the pieces that were cut before in a thread of its own, while the next ones are cut and those after them are read,
-// in the memory of pieces that are spare.
-pub(super) fn judge_beside_cutting<T: Threads + Sync, R: Source>(
+// Judges the pieces that were cut before in a thread of its own, while others are cut and the next ones are read, in the
+// memory of pieces that are spare.
+fn judge_beside_reading<T: Threads + Sync, R: Source>(
+    rt: &T,
+    cutters: Cutters,
+    judge: &mut LineReader,
+    lists: &mut Lists,
+    ahead: &mut Vec<Piece>,
+    reader: &mut LineReader,
+    input: &mut R,
+    spare: &mut Vec<Piece>,
+    pieces: &mut Vec<Piece>,
+    next: &mut [Piece],
+) -> (Result<(), ReadFault>, Result<Ending, AllocError>)
+    requires can { CanJudge judge.old ahead.old.items }
+    requires right { AreRight judge.old.judge.names ahead.old.items }
+    requires spare_right { AreRight judge.old.judge.names spare.old.items }
+    requires can_read { CanReadPieces cutters.threads
+        reader.old (R.failed input.old) pieces.old.items }
+    requires short { AreShort next.old }
+    ensures taken { JudgesText judge.old lists.old (text_of ahead.old.items)
+        judge.new lists.new result.0 }
+    ensures judged { OnOk result.0 (AreRight judge.new.judge.names ahead.new.items) }
+    ensures read { IfOk result.1
+        (HasReadPieces (R.position input.old) reader.old (R.position input.new)
+        (R.failed input.new) reader.new pieces.new.items) }
+    ensures right { OnOk result.0
+        (OnOk result.1 (AreRight judge.new.judge.names pieces.new.items)) }
+    ensures cut { HasCut next.old next.new }
+{
+    let alloc = cutters.alloc;
+    let mut judging = || -> Result<(), ReadFault>
+        requires can { CanJudge judge.now ahead.now.items }
+        requires right { AreRight judge.now.judge.names ahead.now.items }
+        ensures taken { JudgesText judge.entry.now lists.entry.now (text_of ahead.entry.now.items)
+            judge.exit.now lists.exit.now result }
+        ensures judged { OnOk result (AreRight judge.exit.now.judge.names ahead.exit.now.items) }
+    { judge.take_pieces(alloc, lists, ahead) };
+    let mut cutting = || -> Result<Ending, AllocError>
+        requires can_read { CanReadPieces cutters.threads
+            reader.now (R.failed input.now) pieces.now.items }
+        requires short { AreShort next.now }
+        ensures read { IfOk result
+            (HasReadPieces (R.position input.entry.now) reader.entry.now
+            (R.position input.exit.now) (R.failed input.exit.now) reader.exit.now
+            pieces.exit.now.items) }
+        ensures right { OnOk result
+            (StayRight spare.entry.now.items pieces.entry.now.items spare.exit.now.items
+            pieces.exit.now.items) }
+        ensures cut { HasCut next.entry.now next.exit.now }
+    { read_beside_cutting(rt, cutters, reader, input, spare, pieces, next) };
+    join_mut(rt, &mut judging, &mut cutting)
+}
+
+// The same, while the first of the pieces that are to be cut, which stands apart, is cut in a thread of its own. That thread
+// is started before the one that judges, which all others wait for: a system may let the first one wait until the
+// calling thread does.
+fn judge_beside_first<T: Threads + Sync, R: Source>(
+    rt: &T,
+    cutters: Cutters,
+    judge: &mut LineReader,
+    lists: &mut Lists,
+    ahead: &mut Vec<Piece>,
+    reader: &mut LineReader,
+    input: &mut R,
+    spare: &mut Vec<Piece>,
+    pieces: &mut Vec<Piece>,
+    first: &mut Piece,
+    others: &mut [Piece],
+) -> (Result<(), ReadFault>, Result<Ending, AllocError>)
+    requires can { CanJudge judge.old ahead.old.items }
+    requires right { AreRight judge.old.judge.names ahead.old.items }
+    requires spare_right { AreRight judge.old.judge.names spare.old.items }
+    requires can_read { CanReadPieces cutters.threads
+        reader.old (R.failed input.old) pieces.old.items }
+    requires short { IsShort first.old }
+    requires others_short { AreShort others.old }
+    ensures taken { JudgesText judge.old lists.old (text_of ahead.old.items)
+        judge.new lists.new result.0 }
+    ensures judged { OnOk result.0 (AreRight judge.new.judge.names ahead.new.items) }
+    ensures read { IfOk result.1
+        (HasReadPieces (R.position input.old) reader.old (R.position input.new)
+        (R.failed input.new) reader.new pieces.new.items) }
+    ensures right { OnOk result.0
+        (OnOk result.1 (AreRight judge.new.judge.names pieces.new.items)) }
+    ensures cut { HasCutPiece first.old first.new }
+    ensures others_cut { HasCut others.old others.new }
+{
+    let (alloc, seed, cuts) = (cutters.alloc, cutters.seed, cutters.cuts);
+    let mut cutting = ||
+        requires { IsShort first.now }
+        ensures { HasCutPiece first.entry.now first.exit.now }
+    { first.cut(alloc, seed, cuts) };
+    let mut going_on = || -> (Result<(), ReadFault>, Result<Ending, AllocError>)
+        requires can { CanJudge judge.now ahead.now.items }
+        requires right { AreRight judge.now.judge.names ahead.now.items }
+        requires spare_right { AreRight judge.now.judge.names spare.now.items }
+        requires can_read { CanReadPieces cutters.threads
+            reader.now (R.failed input.now) pieces.now.items }
+        requires short { AreShort others.now }
+        ensures taken { JudgesText judge.entry.now lists.entry.now (text_of ahead.entry.now.items)
+            judge.exit.now lists.exit.now result.0 }
+        ensures judged { OnOk result.0 (AreRight judge.exit.now.judge.names ahead.exit.now.items) }
+        ensures read { IfOk result.1
+            (HasReadPieces (R.position input.entry.now) reader.entry.now
+            (R.position input.exit.now) (R.failed input.exit.now) reader.exit.now
+            pieces.exit.now.items) }
+        ensures right { OnOk result.0
+            (OnOk result.1 (AreRight judge.exit.now.judge.names pieces.exit.now.items)) }
+        ensures cut { HasCut others.entry.now others.exit.now }
+    {
+        judge_beside_reading(
+            rt, cutters, judge, lists, ahead, reader, input, spare, pieces, others,
+        )
+    };
+    let ((), both) = join_mut(rt, &mut cutting, &mut going_on);
+    both
+}
+
+// Judges the pieces that were cut before, while the next ones are cut and those after them are read, in the memory of
+// pieces that are spare.
+fn judge_beside_cutting<T: Threads + Sync, R: Source>(
+    rt: &T,
+    cutters: Cutters,
+    judge: &mut LineReader,
+    lists: &mut Lists,
+    ahead: &mut Vec<Piece>,
+    reader: &mut LineReader,
+    input: &mut R,
+    spare: &mut Vec<Piece>,
+    pieces: &mut Vec<Piece>,
+    next: &mut [Piece],
+) -> (Result<(), ReadFault>, Result<Ending, AllocError>)
+    requires can { CanJudge judge.old ahead.old.items }
+    requires right { AreRight judge.old.judge.names ahead.old.items }
+    requires spare_right { AreRight judge.old.judge.names spare.old.items }
+    requires can_read { CanReadPieces cutters.threads
+        reader.old (R.failed input.old) pieces.old.items }
+    requires short { AreShort next.old }
+    ensures taken { JudgesText judge.old lists.old (text_of ahead.old.items)
+        judge.new lists.new result.0 }
+    ensures judged { OnOk result.0 (AreRight judge.new.judge.names ahead.new.items) }
+    ensures read { IfOk result.1
+        (HasReadPieces (R.position input.old) reader.old (R.position input.new)
+        (R.failed input.new) reader.new pieces.new.items) }
+    ensures right { OnOk result.0
+        (OnOk result.1 (AreRight judge.new.judge.names pieces.new.items)) }
+    ensures cut { HasCut next.old next.new }
+{
+    match next.split_first_mut() {
+        Some((first, others)) => judge_beside_first(
+            rt, cutters, judge, lists, ahead, reader, input, spare, pieces, first, others,
+        ),
+        None => judge_beside_reading(
+            rt,
+            cutters,
+            judge,
+            lists,
+            ahead,
+            reader,
+            input,
+            spare,
+            pieces,
+            &mut [],
+        ),
+    }
+}
+
+// As `judge_beside_cutting`, where all pieces of a list are cut.
+pub(super) fn judge_beside_list<T: Threads + Sync, R: Source>(
     rt: &T,
     cutters: Cutters,
     judge: &mut LineReader,
@@ -237,36 +398,8 @@ pub(super) fn judge_beside_cutting<T: Threads + Sync, R: Source>(
         (OnOk result.1 (AreRight judge.new.judge.names pieces.new.items)) }
     ensures cut { HasCut next.old.items next.new.items }
 {
-    let alloc = cutters.alloc;
-    let mut judging = || -> Result<(), ReadFault>
-        requires can { CanJudge judge.now ahead.now.items }
-        requires right { AreRight judge.now.judge.names ahead.now.items }
-        ensures taken { JudgesText judge.entry.now lists.entry.now (text_of ahead.entry.now.items)
-            judge.exit.now lists.exit.now result }
-        ensures judged { OnOk result (AreRight judge.exit.now.judge.names ahead.exit.now.items) }
-    { judge.take_pieces(alloc, lists, ahead) };
-    let mut cutting = || -> Result<Ending, AllocError>
-        requires can_read { CanReadPieces cutters.threads
-            reader.now (R.failed input.now) pieces.now.items }
-        requires short { AreShort next.now.items }
-        ensures read { IfOk result
-            (HasReadPieces (R.position input.entry.now) reader.entry.now
-            (R.position input.exit.now) (R.failed input.exit.now) reader.exit.now
-            pieces.exit.now.items) }
-        ensures right { OnOk result
-            (StayRight spare.entry.now.items pieces.entry.now.items spare.exit.now.items
-            pieces.exit.now.items) }
-        ensures cut { HasCut next.entry.now.items next.exit.now.items }
-    {
-        read_beside_cutting(
-            rt,
-            cutters,
-            reader,
-            input,
-            spare,
-            pieces,
-            next.as_mut_slice(),
-        )
-    };
-    join_mut(rt, &mut judging, &mut cutting)
+    let next = next.as_mut_slice();
+    judge_beside_cutting(
+        rt, cutters, judge, lists, ahead, reader, input, spare, pieces, next,
+    )
 }

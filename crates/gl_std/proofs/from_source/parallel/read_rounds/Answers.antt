@@ -24,8 +24,8 @@ loop-pieces-init g c =
       not_failed = c.requires.not_failed;
     }
 
-pub judge_beside_cutting-taken-requires-clause-can : goal.judge_beside_cutting-taken-requires-clause-can
-judge_beside_cutting-taken-requires-clause-can g c κs within =
+pub judge_beside_list-taken-requires-clause-can : goal.judge_beside_list-taken-requires-clause-can
+judge_beside_list-taken-requires-clause-can g c κs within =
     let so_far = c.loop-pieces.invariant in
     can_take c.loop-pieces.reader c.loop-pieces.judge c.loop-pieces.ahead.items (text_of c.loop-pieces.next.items) so_far.can so_far.short so_far.cut
 
@@ -33,7 +33,7 @@ judge_beside_cutting-taken-requires-clause-can g c κs within =
 pub loop-pieces-preserved : goal.loop-pieces-preserved
 loop-pieces-preserved g c =
     let so_far = c.loop-pieces.invariant in
-    let call = c.judge_beside_cutting-taken in
+    let call = c.judge_beside_list-taken in
     let f = c.loop-pieces.reader in
     let j = c.loop-pieces.judge in
     let f2 = call.new.reader in
@@ -68,7 +68,7 @@ loop-pieces-preserved g c =
 pub returns-in-Err-Line : goal.returns-in-Err-Line
 returns-in-Err-Line g c =
     let so_far = c.loop-pieces.invariant in
-    let call = c.judge_beside_cutting-taken in
+    let call = c.judge_beside_list-taken in
     let f = c.loop-pieces.reader in
     let j = c.loop-pieces.judge in
     let f2 = call.new.reader in
@@ -87,7 +87,7 @@ returns-in-Err-Line g c =
 pub leave_both-requires-clause-can : goal.leave_both-requires-clause-can
 leave_both-requires-clause-can g c κs within =
     let so_far = c.loop-pieces.invariant in
-    let call = c.judge_beside_cutting-taken in
+    let call = c.judge_beside_list-taken in
     let f = c.loop-pieces.reader in
     let j = c.loop-pieces.judge in
     let f2 = call.new.reader in
@@ -105,7 +105,7 @@ leave_both-requires-clause-can g c κs within =
 pub leave_both-requires-clause-right : goal.leave_both-requires-clause-right
 leave_both-requires-clause-right g c κs within =
     let so_far = c.loop-pieces.invariant in
-    let call = c.judge_beside_cutting-taken in
+    let call = c.judge_beside_list-taken in
     let f = c.loop-pieces.reader in
     let j = c.loop-pieces.judge in
     let f2 = call.new.reader in
@@ -122,7 +122,7 @@ leave_both-requires-clause-right g c κs within =
 pub leave_both-requires-clause-next : goal.leave_both-requires-clause-next
 leave_both-requires-clause-next g c κs within =
     let so_far = c.loop-pieces.invariant in
-    let call = c.judge_beside_cutting-taken in
+    let call = c.judge_beside_list-taken in
     let f = c.loop-pieces.reader in
     let j = c.loop-pieces.judge in
     let f2 = call.new.reader in
@@ -144,7 +144,7 @@ leave_both-requires-clause-next g c κs within =
 pub leave_both-requires-clause-room : goal.leave_both-requires-clause-room
 leave_both-requires-clause-room g c κs within =
     let so_far = c.loop-pieces.invariant in
-    let call = c.judge_beside_cutting-taken in
+    let call = c.judge_beside_list-taken in
     let f = c.loop-pieces.reader in
     let j = c.loop-pieces.judge in
     let f2 = call.new.reader in
@@ -163,7 +163,7 @@ leave_both-requires-clause-room g c κs within =
 pub leave_both-requires-clause-on : goal.leave_both-requires-clause-on
 leave_both-requires-clause-on g c κs within =
     let so_far = c.loop-pieces.invariant in
-    let call = c.judge_beside_cutting-taken in
+    let call = c.judge_beside_list-taken in
     let f = c.loop-pieces.reader in
     let j = c.loop-pieces.judge in
     let f2 = call.new.reader in
@@ -181,7 +181,7 @@ leave_both-requires-clause-on g c κs within =
 pub leave_both-requires-clause-not_failed : goal.leave_both-requires-clause-not_failed
 leave_both-requires-clause-not_failed g c κs within =
     let so_far = c.loop-pieces.invariant in
-    let call = c.judge_beside_cutting-taken in
+    let call = c.judge_beside_list-taken in
     let f = c.loop-pieces.reader in
     let j = c.loop-pieces.judge in
     let f2 = call.new.reader in
@@ -198,7 +198,7 @@ leave_both-requires-clause-not_failed g c κs within =
 pub returns-then-not-goes_on : goal.returns-then-not-goes_on
 returns-then-not-goes_on g c =
     let so_far = c.loop-pieces.invariant in
-    let call = c.judge_beside_cutting-taken in
+    let call = c.judge_beside_list-taken in
     let f = c.loop-pieces.reader in
     let j = c.loop-pieces.judge in
     let f2 = call.new.reader in

@@ -1,10 +1,9 @@
-use Rattle.std.proofs.Common.{rules}
-use Rattle.gl_std.proofs.HeardAhead.{right_beside}
+use Rattle.std.proofs.Common.{◌∷◌, sym, subst}
+use Rattle.gl_std.specs.bodies.Ahead.{HasCut}
+use Rattle.gl_std.proofs.PiecesAhead.{cut_both}
 use Rattle.gl_std.proofs.from_source.parallel.cutting.judge_beside_cutting.Goals as goal
 
-pub returns-clause-right : goal.returns-clause-right
-returns-clause-right g c =
-    let judging = c.join_mut.ensures.0.met.1 in
-    let cutting = c.join_mut.ensures.1.met.1 in
-    let right = right_beside _ _ _ _ _ _ _ _ _ c.join_mut.result.0 c.join_mut.result.1 c.requires.can_read.none c.requires.spare_right judging.0 cutting.1.0 in
-    search (rules, right)
+pub returns-in-Some-clause-cut : goal.returns-in-Some-clause-cut
+returns-in-Some-clause-cut g c =
+    subst (λ old. HasCut old (c.judge_beside_first.new.first ∷ c.judge_beside_first.new.others)) (sym c.in-Some.ensures.cases.0)
+    (cut_both c.in-Some.first.now c.judge_beside_first.new.first c.in-Some.others.now c.judge_beside_first.new.others c.judge_beside_first.ensures.cut c.judge_beside_first.ensures.others_cut)
