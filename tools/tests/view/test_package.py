@@ -30,7 +30,7 @@ def outputs(command):
 
 def test_the_folder_and_the_one_file_do_what_the_command_does(zipapp):
     write("r.json", EXAMPLE)
-    expected = outputs([sys.executable, str(TOOL)])
+    expected = outputs([str(TOOL)])
     assert expected[0] == 1
     assert outputs([sys.executable, str(TOP / "tools" / "view")]) == expected
     assert outputs([sys.executable, str(zipapp)]) == expected
@@ -61,7 +61,7 @@ def viewed_in_a_copy(limit):
     """Status and errors of the command on the example, in a copy of the tools, where files may become so large."""
     environment = {name: value for name, value in os.environ.items() if not name.startswith("PYTHON")}
     done = subprocess.run(
-        [sys.executable, "tools/goodlock-view", "r.json"],
+        ["tools/goodlock-view", "r.json"],
         capture_output=True,
         env=environment,
         preexec_fn=lambda: resource.setrlimit(resource.RLIMIT_FSIZE, (limit, resource.RLIM_INFINITY)),

@@ -2,9 +2,9 @@
 
 import os
 import pathlib
+import shutil
 import stat
 import subprocess
-import sys
 
 import pytest
 from viewing import (
@@ -206,15 +206,14 @@ def test_options_may_stand_between_reports():
 def test_a_full_disk_is_status_2(word):
     write("r.json", EXAMPLE)
     with open("/dev/full", "wb") as full:
-        command = [sys.executable, str(TOOL), word]
-        done = subprocess.run(command, stdout=full, stderr=subprocess.PIPE)
+        done = subprocess.run([str(TOOL), word], stdout=full, stderr=subprocess.PIPE)
     errors = b"goodlock-view: standard output: can't be written: No space left on device\n"
     assert (done.returncode, done.stderr) == (2, errors)
 
 
 @pytest.mark.parametrize("stream", ["2>/dev/full", "2>&-"])
 def test_an_error_that_nobody_hears_is_status_2(stream):
-    done = subprocess.run(f'"{sys.executable}" "{TOOL}" none.json {stream}', shell=True)
+    done = subprocess.run(f'"{TOOL}" none.json {stream}', shell=True)
     assert done.returncode == 2
 
 
@@ -223,8 +222,24 @@ def test_closed_streams_are_status_2():
     for arguments, words in (("r.json >&-", "standard output: can't be written: it is closed"),
                              ("--help >&-", "standard output: can't be written: it is closed"),
                              ("- <&-", "standard input: can't be read: it is closed")):  # fmt: skip
-        done = subprocess.run(f'"{sys.executable}" "{TOOL}" {arguments}', shell=True, stderr=subprocess.PIPE)
+        done = subprocess.run(f'"{TOOL}" {arguments}', shell=True, stderr=subprocess.PIPE)
         assert (done.returncode, done.stderr.decode()) == (2, f"goodlock-view: {words}\n")
+
+
+@pytest.mark.parametrize(
+    "there, words",
+    [
+        ([], "readlink, which tells where its own files are, can't be run"),
+        (["readlink"], "there is no python3 on PATH"),
+    ],
+)
+def test_a_command_that_it_needs_and_that_is_missing_is_told_in_a_line(there, words):
+    write("r.json", EXAMPLE)
+    os.mkdir("bin")
+    for name in there:
+        os.symlink(shutil.which(name), f"bin/{name}")
+    done = subprocess.run([str(TOOL), "r.json"], capture_output=True, env={"PATH": os.path.abspath("bin")})
+    assert (done.returncode, done.stdout, done.stderr.decode()) == (2, b"", f"goodlock-view: {words}\n")
 
 
 def test_files_get_usual_permissions_and_a_link_stays_a_link():
@@ -251,7 +266,7 @@ def test_the_same_input_gives_the_same_bytes():
         os.mkdir(folder)
         names = [f"{folder}/{name}" for name in ("p.html", "s.sarif", "g.dot", "k")]
         options = zip(("-o", "--sarif", "--dot", "--write-known"), names)
-        command = [sys.executable, str(TOOL), "1.json", "2.json", "--text", "--source", "src", *sum(options, ())]
+        command = [str(TOOL), "1.json", "2.json", "--text", "--source", "src", *sum(options, ())]
         environment = dict(os.environ, PYTHONHASHSEED=seed, LC_ALL="C", COLUMNS=str(20 * int(seed)))
         done = subprocess.run(command, capture_output=True, env=environment)
         assert (done.returncode, done.stderr) == (1, b"")

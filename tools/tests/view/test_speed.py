@@ -3,7 +3,6 @@
 import json
 import resource
 import subprocess
-import sys
 
 from viewing import TOOL, heads, read, view, write
 
@@ -66,6 +65,6 @@ def test_reports_whose_names_all_differ_take_the_memory_of_a_few():
         edges = [one_edge(a, b, "a.c:1", f"run-{run}-T0", "a.c:2", **modes) for a, b in pairs]
         back = [one_edge(b, a, "b.c:1", f"run-{run}-T1", "b.c:2", **modes) for a, b in pairs]
         write(f"runs/{run}.json", json.dumps(dict(value, edges=[edge for both in zip(edges, back) for edge in both])))
-    limited = ["sh", "-c", 'ulimit -v 230000 && exec "$0" "$@"', sys.executable, TOOL, "runs"]  # all edges: 320,000 kB
+    limited = ["sh", "-c", 'ulimit -v 230000 && exec "$0" "$@"', TOOL, "runs"]  # all edges: 320,000 kB
     output = subprocess.run(limited, stdout=subprocess.PIPE, text=True).stdout
     assert heads(output) == (["finding 1: 40 cycles in 40 reports"], "1 finding, 40 cycles in 40 reports")
