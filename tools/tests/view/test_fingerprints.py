@@ -52,6 +52,12 @@ def test_functions_beside_places_leave_the_id_as_it_is():
     assert ids(view("r.json", "--source", "src")[1]) == [known]
 
 
+def test_the_mark_before_callers_in_the_name_of_a_file_is_a_part_of_it():
+    assert identity(10 * "\n" + SERVER, [line + 10 for line in LINES], "map<key>.c", "map<key>.c") == identity(
+        SERVER, name="map<key>.c", report_name="map<key>.c"
+    )
+
+
 def test_changed_code_at_the_same_lines_is_new():
     identity(SERVER)
     view("r.json", "--source", "src", "--write-known", "known")

@@ -141,6 +141,24 @@ def test_file_names_of_any_bytes_are_found_and_shown_escaped():
     assert "é \\xe2\\x80\\xae&b.c\\xff.c" in text
 
 
+def test_a_file_may_have_the_mark_before_callers_and_those_of_html_in_its_name():
+    """A caller stands behind a whole place alone: behind a line's number, an offset, or what Java tells of a method without lines."""
+    write("src/map<key>.c", "take key\n")
+    write('src/a&b"<c.c', "\ntake both\n")
+    write("src/m.c", "first call\nsecond call\n")
+    text = page_with_source("map<key>.c:1<m.c:2", 'a&b"<c.c:2 (main)', "o.Bank.<init>+12<m.c:1", "o.Bank.take<m.c:1<?")
+    assert marked("p.html") == [
+        [("↓ held since here", "1", "take key")],
+        [("↓ wanted here", "2", "take both")],
+        [("↓ calls", "2", "second call")],
+        [("↓ calls", "1", "first call")],
+    ]
+    assert text.count("map<key>.c") == 3  # as one of a pair, behind "since", and above its line
+    assert "no such file" not in text
+    assert '"uri": "src/map%3Ckey%3E.c"' in read("s.sarif")
+    assert '"uri": "src/a%26b%22%3Cc.c"' in read("s.sarif")
+
+
 def test_lines_that_are_not_there_are_said():
     write("src/short.c", "one\ntwo\n")
     write("src/large.c", b"\n" * 17_000_000)

@@ -11,7 +11,7 @@ import json
 from collections.abc import Iterable
 
 from .names import spell
-from .places import Frame, frames_of
+from .places import Frame, frames_of, parts_of
 from .reports import Pair
 from .sources import Sources
 
@@ -38,7 +38,7 @@ class Fingerprints:
     def _place_anew(self, sources: Sources, place: str) -> str:
         parts: list[str | list[str | int]] = []
         is_found = False
-        for part, frame in zip(place.split("<"), frames_of(place)):
+        for part, frame in zip(parts_of(place), frames_of(place)):
             told = _told(sources, frame)
             is_found = is_found or told is not None
             parts.append(part if told is None else told)

@@ -10,6 +10,8 @@ from .names import unspell
 
 _ADDRESS = re.compile(r"0x[0-9a-fA-F]+")
 _MODULE = re.compile(r"(.+)\+0x([0-9a-f]{1,15})(?: \(.*\))?")
+_END = re.compile(r"(?::[0-9]+|\+(?:0x[0-9a-f]+|[0-9]+))(?: \(.*\))?\Z")
+_METHOD = re.compile(r"[\w$]+(?:\.[\w$]+)+")
 _FRAME = re.compile(r"(.*?[^:]):([1-9][0-9]{0,8})(?::([1-9][0-9]{0,8}))?(?: \(.*\))?")
 
 
@@ -37,10 +39,29 @@ def place_of(location: str, lock: str) -> str:
     return location if location.strip() not in ("", "?") else f"?({_ADDRESS.sub('0x*', lock)})"
 
 
+def parts_of(location: str) -> list[str]:
+    """The places of `a.c:10<b.c:20 (main)`, the innermost first.
+
+    A file may have a `<` in its name. So one divides only behind what ends a place, as recorders tell it: the number of
+    a line, an offset; or behind a whole one that is neither, a method of Java or `?`.
+    """
+    parts: list[str] = []
+    is_whole = True
+    for text in location.split("<"):
+        is_end = _END.search(text.rstrip()) is not None
+        if is_whole:
+            parts.append(text)
+            is_whole = is_end or text.strip() == "?" or _METHOD.fullmatch(text.strip()) is not None
+        else:
+            parts[-1] += "<" + text
+            is_whole = is_end
+    return parts
+
+
 @functools.lru_cache(maxsize=10_000)
 def frames_of(location: str) -> list[Frame | None]:
-    """The frames of `a.c:10<b.c:20 (main)`, the innermost first; None for those that aren't a file and a line."""
-    return [_frame_of(part.strip()) for part in location.split("<")]
+    """The frames of these places; None for those that aren't a file and a line."""
+    return [_frame_of(part.strip()) for part in parts_of(location)]
 
 
 def _frame_of(part: str) -> Frame | None:

@@ -10,7 +10,7 @@ from typing import Any
 from . import __version__
 from .findings import Finding, Summary
 from .names import counted, readable, shortened, spell, unspell
-from .places import Frame, address_of, frames_of
+from .places import Frame, address_of, frames_of, parts_of
 from .reports import Edge
 from .resources import resource
 from .sources import Sources
@@ -72,7 +72,7 @@ class _Places:
 
     def location(self, text: str, message: str | None = None) -> Value:
         """The file or module where there is one, and as a logical location the function, or else the text."""
-        first = text.split("<")[0]
+        first = parts_of(text)[0]
         frame = frames_of(first)[0]
         value: Value = {}
         physical = self._physical(first, frame)
@@ -130,7 +130,7 @@ class _Results:
 
     def _step(self, text: str, message: str) -> Value:
         value: Value = {"location": self._places.location(text, message)}
-        frames = text.split("<")[:_MOST_FRAMES]
+        frames = parts_of(text)[:_MOST_FRAMES]
         if len(frames) > 1:
             value["stack"] = {"frames": [{"location": self._places.location(frame)} for frame in frames]}
         return value
