@@ -167,6 +167,30 @@ def test_search_finds_the_middle_of_a_long_name(driver):
     assert shown(driver) == []
 
 
+def test_search_finds_what_there_is_no_room_to_show(driver):
+    """The first finding is drawn and has more locks than are listed; the second one is in the table, and has more pairs than are shown."""
+    places = ("x.c:1", "x.c:2", "x.c:3", "x.c:4")
+    many = [pair(f"lock-{i}", "index", ("T0", f"thread-{i}"), places) for i in range(1100)]
+    fifth = ring([f"fork-{i}" for i in range(5)], "", "")
+    for i, one in enumerate(fifth):
+        one.update(held_at=f"y{i}.c:1", wanted_at="n" * 100 + f"y{i}.c:2" + "n" * 100)
+    others = ring([f"spoon-{i}" for i in range(5)], "", "")
+    for i, one in enumerate(others):
+        one.update(thread=f"Q{i}", held_at=fifth[i]["held_at"], wanted_at=fifth[i]["wanted_at"])
+    write("r.json", report(*many, fifth, others, length=5, most=2000))
+    view("r.json", "-o", "p.html", "--most", "1")
+    show(driver, 1200)
+    assert shown(driver) == ["x", "y0"]
+    for word in ("lock-7", "LOCK-1099", "thread-1099"):
+        put(driver, "search", word)
+        assert shown(driver) == ["x"], word
+    for word in ("y0.c:1", "y4.c:1", "nY4.c:2n", "fork-4", "spoon-1", "q4"):
+        put(driver, "search", word)
+        assert shown(driver) == ["y0"], word
+    put(driver, "search", "lock-1099 spoon-1")
+    assert shown(driver) == []
+
+
 def test_filters_and_order(driver):
     many_findings()
     show(driver, 1200)

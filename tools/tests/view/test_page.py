@@ -4,6 +4,7 @@ import re
 import xml.etree.ElementTree
 
 import pytest
+from goodlock_view import page as page_module
 from viewing import (
     EXAMPLE,
     HOSTILE,
@@ -73,6 +74,21 @@ def test_beyond_two_thousand_only_the_text_lists_findings():
     assert len(heads(text)[0]) == 2_010
     assert read("p.html").count("<tr data-") == 2_000
     assert "And 7 more, which only the text output lists." in text_of_page("p.html")
+
+
+@pytest.mark.parametrize("room, cut, last", [(28, "", 1), (27, "places", 0), (5, "names and places", 0)])
+def test_the_page_says_where_search_does_not_find_all(monkeypatch, room, cut, last):
+    """In the table four places of seven characters each, with the blank, aren't shown, and as names P3, P4 and e."""
+    monkeypatch.setattr(page_module, "_SOUGHT", room)
+    five = ring("abcde", "", "")
+    for i, one in enumerate(five):
+        one.update(held_at=f"y{i}.c:1", wanted_at=f"y{i}.c:2")
+    write("r.json", report(pair(), five, length=5))
+    view("r.json", "-o", "p.html", "--most", "1")
+    text = text_of_page("p.html")
+    said = re.findall(r"There are too many ([a-z ]+) for search to find them all\.", text)
+    assert (said, text.count("y4.c:2")) == ([cut] if cut else [], last)
+    assert text.count("P4") == (room > 5)
 
 
 def test_new_findings_are_open_and_known_ones_are_marked():

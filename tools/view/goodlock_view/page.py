@@ -11,7 +11,7 @@ import collections
 import hashlib
 import html
 import string
-from collections.abc import Callable
+from collections.abc import Callable, Iterable
 from typing import NamedTuple
 
 from .findings import Finding, Summary
@@ -28,6 +28,7 @@ _FRAMES = 5  # frames of a place whose source is shown
 _REST = 2_000  # findings beyond those drawn that are listed in a line each
 _NAMES = 1_000  # threads or locks of a finding that are listed
 _SHORT = 64  # characters of a name that are shown
+_SOUGHT = 8_000_000  # characters of names that search finds and that aren't shown, in all; and of places
 _LINES = 200  # lines of a confirmation that are shown
 _LINE = 300  # characters of each
 _OPEN = 3  # findings that are open where there are more than a few
@@ -54,6 +55,27 @@ class _Names:
 
     def __init__(self) -> None:
         self._numbers: dict[str, int] = {}
+        self._rooms = {"names": _SOUGHT, "places": _SOUGHT}
+
+    def _number(self, name: str) -> int:
+        """By which the page's end has the whole of a long name."""
+        return self._numbers.setdefault(name, len(self._numbers) + 1)
+
+    def unsought(self) -> list[str]:
+        """Of what there is more than search finds."""
+        return [what for what, room in self._rooms.items() if room < 0]
+
+    def sought(self, what: str, names: Iterable[str]) -> str:
+        """Names, or places, that aren't shown and that search finds: as far as there is room."""
+        parts = []
+        for name in names:
+            text = readable(name)
+            is_new = len(text) > _SHORT and name not in self._numbers
+            self._rooms[what] -= min(len(text), _SHORT) + 1 + is_new * len(text)
+            if self._rooms[what] < 0:
+                break
+            parts.append(escaped(text) if len(text) <= _SHORT else f'<a href="#name-{self._number(name)}"></a>')
+        return f"<div hidden>{' '.join(parts)}</div>" if parts else ""
 
     def short(self, name: str, most: int = _SHORT) -> str:
         """A name in few characters."""
@@ -62,7 +84,7 @@ class _Names:
             return '<span class="faint">(empty)</span>'
         if len(text) <= most:
             return f"<code>{escaped(text)}</code>"
-        number = self._numbers.setdefault(name, len(self._numbers) + 1)
+        number = self._number(name)
         title = escaped(text if len(text) <= 500 else text[:500] + "…")
         short = escaped(shortened(text, most, "…"))
         return f'<a href="#name-{number}" title="{title}"><code>{short}</code></a>'
@@ -79,7 +101,8 @@ class _Names:
             head += ", as " + ", ".join(texts) + ("" if len(kinds) <= 4 else f" and {len(kinds) - 4:,} other kinds")
         items = "".join(f"<li>{self.short(name)}</li>" for name in names[:_NAMES])
         rest = f"<li>and {len(names) - _NAMES:,} more</li>" if len(names) > _NAMES else ""
-        return f'<details class="small"><summary>{head}</summary><ul class="names">{items}{rest}</ul></details>'
+        hidden = self.sought("names", names[_NAMES:])
+        return f'<details class="small"><summary>{head}</summary><ul class="names">{items}{rest}</ul>{hidden}</details>'
 
     def whole(self) -> str:
         """Each long name in full, once."""
@@ -208,6 +231,9 @@ class Page:
         if unmatched:
             verb = "is of a finding that isn't" if unmatched == 1 else "are of findings that aren't"
             notes += f'<p class="faint">{counted(unmatched, "confirmation")} {verb} in these reports.</p>'
+        unsought = " and ".join(self._names.unsought())
+        if unsought:
+            notes += f'<p class="faint">There are too many {unsought} for search to find them all.</p>'
         return notes
 
     def _tools(self) -> str:
@@ -301,6 +327,13 @@ class Page:
         ]
         return "".join(parts)
 
+    def _sought(self, finding: Finding, most: int = 3) -> str:
+        """What search finds of a finding in the table beside what is shown: all its places, threads and locks."""
+        places = dict.fromkeys(place for pair in finding.pairs[most:] for place in pair)
+        shown = {name for edge in finding.sample[:most] for name in (edge.thread, edge.held, edge.wanted)}
+        names = sorted((finding.threads | finding.locks) - shown)
+        return self._names.sought("places", places) + self._names.sought("names", names)
+
     def _rest(self) -> str:
         """The findings that aren't drawn, in a line each."""
         left = self._summary.findings[self._most :]
@@ -310,7 +343,8 @@ class Page:
         for number, finding in enumerate(left[:_REST], self._most + 1):
             cells = f'<td class="number">{number:,}{self._badge(finding)}</td>'
             who = f'<div class="small faint">{self._who(finding)}</div>'
-            cells += f'<td class="number">{finding.cycles:,}</td><td>{self._places(finding)}{who}</td>'
+            cells += f'<td class="number">{finding.cycles:,}</td>'
+            cells += f"<td>{self._places(finding)}{who}{self._sought(finding)}</td>"
             rows.append(f"<tr {self._data(finding)}>{cells}</tr>\n")
         head = '<tr><th class="number">Finding</th><th class="number">Cycles</th><th>Places</th></tr>'
         more = f"<p>And {len(left) - _REST:,} more, which only the text output lists.</p>" if len(left) > _REST else ""
