@@ -34,20 +34,22 @@ from build import BuildError, has_bytecode_room  # noqa: E402
 
 sys.dont_write_bytecode = not has_bytecode_room()
 
-from convert import ConvertError, Sources, clean, name_process, read_processes, take_name  # noqa: E402
-from family import Family, adopt_orphans, script_command, send_signal  # noqa: E402
+from convert import ConvertError, Sources, clean, described, name_process, read_processes, take_name  # noqa: E402
+from family import BEGIN_LIMIT, Family, adopt_orphans, script_command, send_signal  # noqa: E402
 from findings import ReportError, place_of, read_findings  # noqa: E402
 from launch import (  # noqa: E402
     VERSION,
     Failed,
     Preload,
+    became_unrecorded,
     child_environment,
     fill_closed_descriptors,
     forget_locale,
     print_text,
     tell,
+    what_became,
 )
-from recording import new_recording  # noqa: E402
+from recording import maps_file, new_recording  # noqa: E402
 from symbols import demangled  # noqa: E402
 
 STATUS_NOT_SEEN, STATUS_DEADLOCKED, STATUS_ERROR = 0, 1, 125
@@ -69,6 +71,8 @@ OBJECT_SHIFT, SITE_SHIFT, SITE_MASK, KIND_MASK = 32, 5, (1 << 27) - 1, 31
 SHARED = (3, 6)
 # Where in a mutex of glibc its owner stands.
 MUTEX_OWNER = 8
+# In place of what stands there: this process may not look.
+NO_RIGHT = -1
 # Bytes that a file of the outcome is given before the runs: it seldom has more.
 OUTPUT_ROOM = 1 << 16
 
@@ -140,6 +144,7 @@ class Wait:
         self.turns, self.task, self.wanted, self.address, self.condition, count, self.thread = words[:HELD]
         self.held = words[HELD : HELD + min(count, HELD_LIMIT)]
         self.stacks = words[WANTED_STACK:]
+        self.is_hidden = False  # whether the kernel wouldn't say what it waits for
 
     def key(self):
         return self.process, self.thread, self.turns, self.wanted
@@ -154,11 +159,13 @@ class Wait:
         return word is not None and not (word & KIND_MASK in SHARED and self.wanted & KIND_MASK in SHARED)
 
     def mutex_owner(self):
-        """The thread that has the mutex, as the C library keeps it in there; None if it can't be read."""
+        """The thread that has the mutex, as the C library keeps it in there; None if it can't be read, NO_RIGHT if it may not be."""
         try:
             with open("/proc/%d/mem" % self.process[0], "rb", buffering=0) as memory:
                 memory.seek(self.address + MUTEX_OWNER)
                 return struct.unpack("=i", memory.read(4))[0]
+        except PermissionError:
+            return NO_RIGHT
         except (OSError, ValueError, struct.error):
             return None
 
@@ -169,6 +176,9 @@ class Wait:
         try:
             with open("/proc/%d/task/%d/syscall" % (self.process[0], self.task)) as file:
                 return file.read().split()[1] == "0x%x" % self.address
+        except PermissionError:
+            self.is_hidden = True
+            return False
         except (OSError, IndexError):
             return False
 
@@ -307,7 +317,10 @@ class Run:
         environment["GOODLOCK_CONFIRM_PLAN"] = plan_path
         self.family = Family(self.recording, say)
         self.cycle = []
+        self.hidden = []  # processes of which the kernel wouldn't say what a thread waits for
         self.in_time = True
+        self.killed = set()  # processes
+        self.unrecorded = set()  # those of them that ran what isn't recorded
         self.limit = time.monotonic() + settings.seconds
         self.program = None
         try:
@@ -325,7 +338,9 @@ class Run:
         before = None
         while self.members():
             self.family.reap()
-            cycle = waiting_cycle(read_waits(self.recording))
+            waits = read_waits(self.recording)
+            cycle = waiting_cycle(waits)
+            self.hidden += [wait.process[0] for wait in waits if wait.is_hidden]
             keys = {wait.key() for wait in cycle}
             if cycle and keys == before:
                 self.cycle = cycle
@@ -334,8 +349,18 @@ class Run:
             before = keys
             if time.monotonic() > self.limit:
                 self.in_time = False
+                self.unrecorded = self.others()
                 return
             time.sleep(LOOK)
+
+    def others(self):
+        """The processes that run what isn't recorded. One that has just become another program has a moment to begin its files."""
+        others = set(self.members())
+        limit = time.monotonic() + BEGIN_LIMIT
+        while others and time.monotonic() < limit:
+            others = {process for process in others & set(self.members()) if not maps_file(process, self.family.token)}
+            time.sleep(LOOK)
+        return others
 
     def kill(self):
         """Ends the program and what it started: each is held fast, and looked at again, before it is sent the signal."""
@@ -343,6 +368,7 @@ class Run:
             members = self.members()
             if not members:
                 break
+            self.killed.update(members)
             send_signal(members, signal.SIGKILL, self.members)
             self.family.reap()
             time.sleep(0.01)
@@ -354,6 +380,14 @@ class Run:
         """Those in which there was no room for what threads wait for: a cycle there isn't seen."""
         return processes.keys() - waits_files(self.recording).keys()
 
+    def doubts(self, processes):
+        """What isn't known of this run: (which kind of doubt, text)."""
+        gone = became_unrecorded(self.recording, processes.values(), self.killed - self.unrecorded)
+        if gone:
+            yield "unrecorded", what_became([described(process) for process in gone])
+        if self.hidden:
+            yield "hidden", "unknown whether threads that waited for conditions had woken: " + no_right(self.hidden[0])
+
     def processes(self):
         processes, _ = read_processes(self.recording)
         addresses = [address for wait in self.cycle for address in wait.stacks if address]
@@ -364,6 +398,10 @@ class Run:
             del process.sites[SITE_MASK + 1]
             name_process(process, self.sources)
         return processes
+
+
+def no_right(process):
+    return "no right to look at process %d (CAP_SYS_PTRACE)" % process
 
 
 # --- A deadlock -------------------------------------------------------------------------------------
@@ -392,14 +430,19 @@ class Deadlock:
     def pairs(self):
         return [(self.location(held), self.location(wait.wanted)) for wait, held in self.steps]
 
-    def is_true(self):
-        """Whether each mutex of the cycle belongs to the thread that acquired it: another one may have unlocked it."""
+    def doubt(self):
+        """Why it may be no deadlock, if it may: each mutex of the cycle has to belong to the thread that acquired it, as another one may
+        have unlocked it."""
         for i, (wait, _) in enumerate(self.steps):
             number = wait.wanted >> OBJECT_SHIFT
             lock = self.process.locks.get(number) or self.process.names.parents_lock(number)
-            if lock and lock.kind == "mutex" and self.owners[i] != self.steps[(i + 1) % len(self.steps)][0].task:
-                return False
-        return True
+            if not lock or lock.kind != "mutex" or self.owners[i] == self.steps[(i + 1) % len(self.steps)][0].task:
+                continue
+            if self.owners[i] == NO_RIGHT:
+                unknown = "hung in a cycle, and it is unknown whether its mutexes are those threads': %s"
+                return unknown % no_right(wait.process[0])
+            return "waited for a mutex that another thread had unlocked"
+        return None
 
     def is_of(self, finding):
         """Whether its pairs of places are those of the finding."""
@@ -455,37 +498,43 @@ def outcome_of(settings, finding, directory, preload):
     """A deadlock and the number of the run in which it came (0: the first one, that finds the places), or None. Also how many
     runs took too long."""
     places = Places(finding.sample)
-    late = 0
+    late, doubts = 0, {}
     for number in range(settings.tries + 1):
         hold = HOLDS[min(number, len(HOLDS)) - 1] if number else 0
         own = os.path.join(directory, "%d" % number)
         os.mkdir(own)
         let_through(own)
         run = Run(settings, own, preload, places.plan(hold))
-        processes = run.processes()
-        if not processes:
-            raise Failed(
-                "nothing was recorded: is the program statically linked, set-user-id, with file capabilities or of another "
-                "machine type?"
-            )
-        if len(run.blind(processes)) == len(processes):
-            raise Failed("%s: no room for what the threads wait for" % directory)
+        processes = recorded_processes(run, directory)
         if run.cycle:
             deadlock = Deadlock(run, processes, places)
-            if deadlock.is_true() and deadlock.is_of(finding):
+            doubt = deadlock.doubt()
+            if not doubt and deadlock.is_of(finding):
                 return deadlock, number, late
-            what = (
-                "hung in another cycle" if deadlock.is_true() else "waited for a mutex that another thread had unlocked"
-            )
-            say("run %d: the program %s:" % (number, what))
+            say("run %d: the program %s:" % (number, doubt or "hung in another cycle"))
             for line in deadlock.lines():
                 say(line)
         late += not run.in_time
+        for kind, text in run.doubts(processes):
+            doubts.setdefault(kind, text)
         places.learn(processes)
         shutil.rmtree(own)
-    for place in sorted(places.missing):
-        say("no run came to %s" % place)
+    for text in [*doubts.values(), *("no run came to %s" % place for place in sorted(places.missing))]:
+        say(text)
     return None, settings.tries, late
+
+
+def recorded_processes(run, directory):
+    """Those of a run, in which there has to be one whose threads can be looked at."""
+    processes = run.processes()
+    if not processes:
+        raise Failed(
+            "nothing was recorded: is the program statically linked, set-user-id, with file capabilities or of another "
+            "machine type?"
+        )
+    if len(run.blind(processes)) == len(processes):
+        raise Failed("%s: no room for what the threads wait for" % directory)
+    return processes
 
 
 class Output:

@@ -784,7 +784,7 @@ class Summary:
         )
 
     def name(self):
-        return "process %d (%s)" % (self.process.key[0], shortened(self.process.command))
+        return described(self.process)
 
 
 def summary_lines(summaries):
@@ -796,6 +796,10 @@ def summary_lines(summaries):
     elif silent:
         found.append("%d processes: no events, no file" % len(silent))
     return found
+
+
+def described(process):
+    return "process %d (%s)" % (process.key[0], shortened(process.command))
 
 
 def shortened(command):

@@ -497,24 +497,35 @@ def convert_all(recording, settings, first, running, ends):
     return found, why
 
 
-def say_what_became(recording, summaries, running):
-    """Says which processes became programs by exec that left nothing, though there was room; whether there is one."""
+def became_unrecorded(recording, processes, running):
+    """Those of these processes that became programs by exec that left nothing, though there was room, but for those that run."""
     from convert import END_EXEC
 
     if recording.unrecorded()[0]:
-        return False
+        return []
     begun = {(pid, image) for pid, image, *_ in recording.extents()}
     gone = []
-    for summary in summaries:
-        pid, image = summary.process.key
-        if summary.process.end == END_EXEC and (pid, image + 1) not in begun and str(pid) not in map(str, running):
-            gone.append(summary.name())
+    for process in processes:
+        pid, image = process.key
+        if process.end == END_EXEC and (pid, image + 1) not in begun and str(pid) not in map(str, running):
+            gone.append(process)
+    return gone
+
+
+def what_became(names):
+    """What is said of such processes."""
+    who = "%s became a program that wasn't" % names[0]
+    if len(names) > 1:
+        who = "%d processes became programs that weren't" % len(names)
+    kinds = "statically linked, set-user-id, with file capabilities, of another machine type"
+    return "%s recorded: %s, or with a cleared environment or an LD_PRELOAD of its own?" % (who, kinds)
+
+
+def say_what_became(recording, summaries, running):
+    """Says which processes became programs that weren't recorded; whether there is one."""
+    gone = became_unrecorded(recording, [summary.process for summary in summaries], running)
     if gone:
-        who = "%s became a program that wasn't" % gone[0]
-        if len(gone) > 1:
-            who = "%d processes became programs that weren't" % len(gone)
-        kinds = "statically linked, set-user-id, with file capabilities, of another machine type"
-        say("%s recorded: %s, or with a cleared environment or an LD_PRELOAD of its own?" % (who, kinds))
+        say(what_became([summary.name() for summary in summaries if summary.process in gone]))
     return bool(gone)
 
 

@@ -25,6 +25,7 @@ from convert import (
     ConvertError,
     Sources,
     Summary,
+    described,
     name_process,
     packed_chunks,
     packed_files,
@@ -34,7 +35,6 @@ from convert import (
     process_paths,
     processes_of,
     run_program,
-    shortened,
     take_name,
     windows,
 )
@@ -486,10 +486,6 @@ def reap():
             pass
     except ChildProcessError:
         pass
-
-
-def described(process):
-    return "process %d (%s)" % (process.key[0], shortened(process.command))
 
 
 class Companion:

@@ -13,6 +13,7 @@ CONFIRM = os.path.join(TOOLS, "goodlock-confirm")
 VIEW = os.path.join(TOOLS, "goodlock-view")
 NOT_SEEN, DEADLOCKED, ERROR = 0, 1, 125
 TEMPORARY = "temporary"  # the folder for temporary files, in that of the test
+NOBODY = {"user": 65534, "group": 65534, "extra_groups": []}
 PATIENTLY = ["--tries", "20", "--seconds", "%d" % LIMIT]  # for machines on which threads come late
 
 

@@ -9,7 +9,7 @@ import textwrap
 import confirming
 import pytest
 from c_programs import C_FLAGS, MARKS, SOURCES, TOOLS, build
-from confirming import CONFIRM, DEADLOCKED, PATIENTLY, VIEW, check_that_nothing_is_left, deadlocks, run
+from confirming import CONFIRM, DEADLOCKED, NOBODY, PATIENTLY, VIEW, check_that_nothing_is_left, deadlocks, run
 
 
 def test_finding_of_the_documentation(predict):
@@ -64,9 +64,6 @@ def test_stacks_have_the_whole_names_of_functions(folder):
     for name, mark in (("one_way(void*)::{lambda(int)#1}", "in_a_lambda"), ("Called", "in_an_object")):
         place = MARKS["objects.cc", mark]
         assert out.count("          %s::operator() (%s)\n" % (name, place)) == 2, out
-
-
-NOBODY = {"user": 65534, "group": 65534, "extra_groups": []}
 
 
 def may_look_into_others():
