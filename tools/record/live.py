@@ -63,6 +63,7 @@ HANG = 0.5
 UNQUIET = 10
 SHARE = 10
 END_LIMIT = 5
+ENDING = (signal.SIGINT, signal.SIGTERM, signal.SIGHUP, signal.SIGQUIT)
 
 
 # --- The copy of the events ------------------------------------------------------------------------------
@@ -494,7 +495,8 @@ class Companion:
     def __init__(self, follower):
         reading, writing = os.pipe()
         self.pipe = writing
-        self.process = os.fork()
+        self.recording = follower.recording
+        self.process = self.number = os.fork()
         if self.process == 0:
             os.close(writing)
             self.run(follower, reading)
@@ -527,7 +529,15 @@ class Companion:
             self.process = None
 
     def end(self):
-        """Ends it, at once after a moment."""
+        """Ends it, and removes what it left aside, if it was killed."""
+        self.end_soon()
+        try:
+            self.recording.remove_work(self.number)
+        except OSError:  # somebody removed the recording, or moved it away
+            pass
+
+    def end_soon(self):
+        """At once after a moment."""
         os.close(self.pipe)
         limit = time.monotonic() + END_LIMIT
         while self.process is not None and os.waitpid(self.process, os.WNOHANG)[0] == 0:
@@ -539,6 +549,43 @@ class Companion:
 
 
 # --- At the end ------------------------------------------------------------------------------------------
+
+
+class Ended(BaseException):
+    """A signal ends this process."""
+
+
+class Aside:
+    """While copies and reports are made aside. They are removed in the end, also where a signal is that."""
+
+    def __init__(self, recording):
+        self.recording = recording
+        self.handlers = {}
+        self.number = None
+        self.is_ending = False
+
+    def __enter__(self):
+        for number in ENDING:
+            if signal.getsignal(number) in (signal.SIG_DFL, signal.default_int_handler):
+                self.handlers[number] = signal.signal(number, self.end_by)
+
+    def end_by(self, number, _):
+        """The first signal ends what is made; none ends the removal."""
+        self.number = number
+        if not self.is_ending:
+            self.is_ending = True
+            raise Ended
+
+    def __exit__(self, *_):
+        self.is_ending = True
+        try:
+            self.recording.remove_work()
+        finally:
+            for number, handler in self.handlers.items():
+                signal.signal(number, handler)
+            if self.number:
+                signal.signal(self.number, signal.SIG_DFL)
+                os.kill(os.getpid(), self.number)
 
 
 class LiveSummary(Summary):
@@ -604,32 +651,37 @@ def report_recording(recording, path, first, running, ends, question, with_funct
     """Writes the report of each process; what is said of each, the first process's first, and what was damaged or has no report.
     Nothing is written where there is none, or no memory for one. `ends`: the wait statuses that are known, by process.
     """
-    copied = last_copy(recording, running)
-    processes, faults = named_processes(recording, copied, {}, with_functions)
-    if first is None and processes:
-        first = min(processes)[0]
-    faults += take_damaged(recording, processes)
-    paths = process_paths(processes, path, first)
+    with Aside(recording):
+        copied = last_copy(recording, running)
+        processes, faults = named_processes(recording, copied, {}, with_functions)
+        if first is None and processes:
+            first = min(processes)[0]
+        faults += take_damaged(recording, processes)
+        summaries = live_summaries(processes, process_paths(processes, path, first), copied, first)
+        last_images = dict(sorted(processes))
+        for summary in summaries:
+            pid, image = summary.process.key
+            summary.settle(running, ends.get(pid) if image == last_images[pid] else None)
+            if summary.events:
+                is_json = path.endswith(".json")
+                summary.report = report_of(recording, summary.process, question, not summary.open, is_json, False)
+                if summary.report.code == MEMORY:
+                    raise ConvertError(summary.no_report())
+        recording.remove_work()
+        without = [summary.no_report() for summary in summaries if summary.lacks_report()]
+        if without and not any(summary.report and summary.report.code == OK for summary in summaries):
+            raise ConvertError("; ".join(without))
+        write_reports(summaries)
+    return summaries, faults + without
+
+
+def live_summaries(processes, paths, copied, first):
+    """Those of processes whose reports have these paths, none of which is there yet; the first process's first."""
     for taken in paths.values():
         if os.path.lexists(taken):
             raise ConvertError("%s exists already" % taken)
     order = sorted(processes, key=lambda key: (key[0] != first, key))
-    last_images = dict(sorted(processes))
-    summaries = [LiveSummary(processes[key], paths[key], copied[key]) for key in order]
-    for summary in summaries:
-        pid, image = summary.process.key
-        summary.settle(running, ends.get(pid) if image == last_images[pid] else None)
-        if summary.events:
-            is_json = path.endswith(".json")
-            summary.report = report_of(recording, summary.process, question, not summary.open, is_json, False)
-            if summary.report.code == MEMORY:
-                raise ConvertError(summary.no_report())
-    recording.remove_work()
-    without = [summary.no_report() for summary in summaries if summary.lacks_report()]
-    if without and not any(summary.report and summary.report.code == OK for summary in summaries):
-        raise ConvertError("; ".join(without))
-    write_reports(summaries)
-    return summaries, faults + without
+    return [LiveSummary(processes[key], paths[key], copied[key]) for key in order]
 
 
 def write_reports(summaries):

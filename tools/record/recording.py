@@ -115,9 +115,11 @@ class Recording:
         """A path that no other process uses, for a copy or report."""
         return os.path.join(self.directory, "%s.%d" % (what, os.getpid()))
 
-    def remove_work(self, names=None):
-        """Removes such files: this process's, or all of these names."""
-        names = names or re.compile(r"(copy|report)\.%d" % os.getpid())
+    def remove_work(self, process=None):
+        """Removes such files: those of a process, else of this one."""
+        self.remove_named(re.compile(r"(copy|report)\.%d" % (process or os.getpid())))
+
+    def remove_named(self, names):
         for name in os.listdir(self.directory):
             path = os.path.join(self.directory, name)
             if names.fullmatch(name) and stat.S_ISREG(os.lstat(path).st_mode):
@@ -135,7 +137,7 @@ class Recording:
             os.unlink(path)
         for place, _ in list(self.places())[1:]:
             rmdir_if_empty(place)
-        self.remove_work(WORK_NAME)
+        self.remove_named(WORK_NAME)
         if self.mark():
             os.unlink(os.path.join(away, MARK))
         return rmdir_if_empty(away)

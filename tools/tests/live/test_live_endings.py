@@ -9,8 +9,8 @@ import sys
 
 import pytest
 from c_programs import NO_DISK, SmallDisk, end, has_ended, raw_directories, raw_directory
-from following import ORDERS, Live, children_of, cycles_in, lines_of, read_report, report_later, reported
-from known_traces import LIMIT, RECORD, REFUSED, TOOLS, wait_for
+from following import ORDERS, Live, children_of, cycles_in, left_behind, lines_of, read_report, report_later, reported
+from known_traces import LIMIT, RECORD, REFUSED, TOOLS, read_line, wait_for
 
 
 def test_killed_program():
@@ -51,6 +51,58 @@ def test_killed_companion():
     live.end(signal.SIGTERM, 128 + signal.SIGTERM)
     assert cycles_in(read_report()) == ORDERS, live.said
     assert raw_directories() == [], "the recording is there"
+
+
+def left_aside():
+    """The names of copies and reports in a recording that is kept."""
+    return [name for name in os.listdir(raw_directory("r.json")) if name.startswith(("copy.", "report."))]
+
+
+def test_killed_companion_of_a_recording_that_is_kept():
+    """What it left goes, as that of the report at the end does, which finds another one of its name."""
+    live = Live("./live", "waits").is_ready()
+    live.wait_for_words("1 cycle so far")
+    (companion,) = children_of(live.process.pid) - {live.program}
+    os.kill(companion, signal.SIGKILL)
+    for what in ("copy", "report"):
+        with open("%s/%s.%d" % (raw_directory("r.json"), what, companion), "w") as file:
+            file.write("part of it")
+    with open("r.json", "w") as file:
+        file.write("old")
+    live.end(signal.SIGTERM, REFUSED)
+    assert "r.json exists already (what was recorded is kept in " in live.said, live.said
+    assert left_aside() == [], live.said
+
+
+# goodlock-record, which waits where it makes a report at the end.
+WAITS = """
+import sys, time
+sys.path.insert(0, sys.argv.pop(1))
+import launch, live
+def wait(recording, *asked):
+    open(recording.work_file("report"), "w").close()
+    print("ready", flush=True)
+    time.sleep(600)
+live.report_of = wait
+sys.exit(launch.main(launch.read_own_arguments, launch.Recorder()))
+"""
+
+
+@pytest.mark.parametrize("number", [signal.SIGINT, signal.SIGTERM])
+def test_report_that_a_signal_ends(number):
+    """It leaves nothing, and can be made later."""
+    directory = left_behind("./live", "waits")
+    command = [sys.executable, "-c", WAITS, os.path.join(TOOLS, "record"), "--live", "-o", "r.json"]
+    command += ["--convert", directory]
+    with subprocess.Popen(command, stdout=subprocess.PIPE, stderr=subprocess.PIPE) as made:
+        assert read_line(made.stdout) == b"ready\n", made.stderr.read()
+        assert sorted(left_aside()) == ["copy.%d" % made.pid, "report.%d" % made.pid]
+        made.send_signal(number)
+        said = made.communicate(timeout=LIMIT)[1]
+    assert (made.returncode, said) == (-number, b""), (made.returncode, said)
+    assert left_aside() == []
+    said = report_later(directory)
+    assert cycles_in(read_report()) == ORDERS, said
 
 
 def test_lost_events_are_not_settled():
@@ -100,6 +152,7 @@ def test_report_that_is_refused_is_made_later(code, why):
     assert not os.path.exists("r.json"), "there is a report"
     status, again = refused(code, "all", "--convert", directory)
     assert status == REFUSED and told in again, again
+    assert left_aside() == []
     said = report_later(directory)
     assert cycles_in(read_report()) == ORDERS, said
 
