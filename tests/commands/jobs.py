@@ -22,7 +22,7 @@ import threading
 
 TOP = pathlib.Path(__file__).resolve().parents[2]
 LARGEST = "ordinary-names"
-SHAPES = ("few-locks", "many-locks", "forks", "readers", "connections", LARGEST)
+SHAPES = ("few-locks", "many-locks", "forks", "readers", "connections", "item-locks", LARGEST)
 # lines that are no events, or faults of a line alone
 OTHERS = (b"", b"T0|w(x)|3", b"T0|req(l)|4", b"T0|rel(never)|5", b"new|acq(l)|6", b"T1|fork(new2)|7")
 FAULTS = (b"T0", b"T0|acq(a)", b"|acq(a)|1", b"T0|acq()|1", b"T0|fork(T0)|1", b"x" * 65537, b"y" * 700000)

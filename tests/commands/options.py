@@ -88,11 +88,12 @@ def threads_that_read(program):
         trace = report + events * 100000
         for jobs in (1, 2):
             got = program.counts(f"{words} --jobs {jobs}", trace)[0]
-            program.expect(f"{words} --jobs {jobs} starts no thread, not {got}", got == 0)
+            for_edges = 1 if jobs == 2 and words in ("predict", "stats") else 0
+            program.expect(f"{words} --jobs {jobs} starts {for_edges} threads, not {got}", got == for_edges)
         for jobs in (3, 16):
             got = program.counts(f"{words} --jobs {jobs}", trace)[0]
             program.expect(f"{words} --jobs {jobs} starts threads", got > 1)
-            got = program.counts(f"{words} --jobs {jobs}", report + events * 16000)[0]
+            got = program.counts(f"{words} --jobs {jobs}", report + events * 8000)[0]
             program.expect(f"{words} --jobs {jobs} starts no thread for a small text, not {got}", got == 0)
         usual = program.counts(words, trace)[0]
         several = len(os.sched_getaffinity(0)) >= 3
@@ -100,8 +101,8 @@ def threads_that_read(program):
 
 
 def threads_that_look_for_edges(program):
-    """Each of several threads takes the lists of some threads of the trace, where there are many events and two are asked
-    for. A text as small as this is read by one thread."""
+    """Each of several threads takes the lists of some threads of the trace, or a part of a long list, where there are many
+    events and two are asked for. A text as small as this is read by one thread."""
     events = b"".join(b"T%d|acq(a)|1\nT%d|rel(a)|2\n" % (number, number) for number in range(2))
     for words in ("predict", "stats"):
         got = program.counts(f"{words} --jobs 1", events * 6000)[0]
@@ -110,6 +111,10 @@ def threads_that_look_for_edges(program):
         program.expect(f"{words} --jobs 2 starts threads for 24,000 events of two threads", got > 0)
         got = program.counts(f"{words} --jobs 2", events * 4050)[0]
         program.expect(f"{words} --jobs 2 starts no thread for 16,200 events, not {got}", got == 0)
+        for jobs, parts in ((2, 2), (4, 4), (16, 8)):
+            got = program.counts(f"{words} --jobs {jobs}", b"T0|acq(a)|1\nT0|rel(a)|2\n" * 12000)[0]
+            what = f"{words} --jobs {jobs} takes one thread's 24,000 events in {parts} parts"
+            program.expect(f"{what}, so it starts {parts - 1} threads, not {got}", got == parts - 1)
 
 
 def ring_under_gates():
