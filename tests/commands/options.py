@@ -114,7 +114,7 @@ def threads_that_look_for_edges(program):
         for jobs, parts in ((2, 2), (4, 4), (16, 8)):
             got = program.counts(f"{words} --jobs {jobs}", b"T0|acq(a)|1\nT0|rel(a)|2\n" * 12000)[0]
             what = f"{words} --jobs {jobs} takes one thread's 24,000 events in {parts} parts"
-            program.expect(f"{what}, so it starts {parts - 1} threads, not {got}", got == parts - 1)
+            program.expect(f"{what}, so it starts up to {parts - 1} threads, not {got}", 0 < got < parts)
 
 
 def ring_under_gates():
