@@ -86,6 +86,7 @@ def threads_that_read(program):
     for words in ("predict", "stats", "replay", "check"):
         report = program.report(events) if words == "check" else b""  # that of all these traces, which have no edge
         trace = report + events * 100000
+        small = 8000 if words in ("predict", "stats") else 16000  # beyond that these look for edges by several threads
         for jobs in (1, 2):
             got = program.counts(f"{words} --jobs {jobs}", trace)[0]
             for_edges = 1 if jobs == 2 and words in ("predict", "stats") else 0
@@ -93,7 +94,7 @@ def threads_that_read(program):
         for jobs in (3, 16):
             got = program.counts(f"{words} --jobs {jobs}", trace)[0]
             program.expect(f"{words} --jobs {jobs} starts threads", got > 1)
-            got = program.counts(f"{words} --jobs {jobs}", report + events * 8000)[0]
+            got = program.counts(f"{words} --jobs {jobs}", report + events * small)[0]
             program.expect(f"{words} --jobs {jobs} starts no thread for a small text, not {got}", got == 0)
         usual = program.counts(words, trace)[0]
         several = len(os.sched_getaffinity(0)) >= 3
