@@ -3,4 +3,4 @@ use Rattle.gl_sought.proofs.components.components_of.Given as goal
 
 -- each place has its number
 abbrev pub invariant-loop-number : goal.invariant-loop-number
-invariant-loop-number l = vec_len l.walk.tree ≡ l.places
+invariant-loop-number l = vec_len l.numbers ≡ l.places
