@@ -17,6 +17,7 @@ use crate::table::Table;
 use gl_event::Memory;
 use std::alloc::Global;
 use std::marker::Model;
+use std::mem::swap;
 
 // So many pairs more than twice those that were left the last time come before they are sorted.
 const SPARE: usize = 16_384;
@@ -79,7 +80,7 @@ impl Batch {
         ensures { OnOk result (self.new ≡ once (self.old ++ list)) }
     {
         let mut pairs = list.into_vec();
-        self.pairs.append(&mut pairs)?;
+        move_behind(&mut self.pairs, &mut pairs)?;
         Ok(())
     }
 
@@ -127,7 +128,7 @@ impl Batch {
         ensures { OnOk result (self.new ≡ self.old) }
     {
         compact(&mut self.pairs);
-        self.ended.append(&mut self.pairs)?;
+        move_behind(&mut self.ended, &mut self.pairs)?;
         self.sorted = 0;
         self.has_repeats = false;
         self.most = SPARE;
@@ -145,10 +146,26 @@ impl Batch {
             has_repeats: _,
             most: _,
         } = self;
-        all.append(&mut pairs)?;
+        move_behind(&mut all, &mut pairs)?;
         compact(&mut all);
         Ok(EdgeList::from_ascending(all))
     }
+}
+
+/// Moves more pairs behind others. Where there are none yet, the two lists change places: nothing is copied.
+pub(crate) fn move_behind(
+    pairs: &mut Vec<(Edge, Sample)>,
+    more: &mut Vec<(Edge, Sample)>,
+) -> Result<(), Memory>
+    ensures all { OnOk result (pairs.new.items ≡ pairs.old.items ++ more.old.items) }
+    ensures moved { OnOk result (more.new.items ≡ []) }
+{
+    if pairs.is_empty() {
+        swap(pairs, more);
+        return Ok(());
+    }
+    pairs.append(more)?;
+    Ok(())
 }
 
 // Sorts the pairs, by merging where there is memory for that: those that were sorted before stay together then.

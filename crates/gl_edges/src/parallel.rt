@@ -8,6 +8,7 @@ ghost use Rattle.gl_edges.specs.Edges.{edges};
 ghost use Rattle.gl_edges.specs.bodies.Sharing.{edges_of_share, FollowOn};
 ghost use Rattle.gl_edges.specs.declared.parallel.Share.{Share};
 
+use crate::batch::move_behind;
 use crate::edge::{Edge, Sample};
 use crate::gather::{edges_from, edges_of};
 use crate::list::EdgeList;
@@ -141,21 +142,32 @@ fn edges_of_each<T: Threads + Sync>(
     gathered(rt, alloc, chain)
 }
 
-// The pairs of all lists, one list after the other.
+// How many pairs the lists have.
+fn pairs_in(pieces: &[EdgeList]) -> usize {
+    let mut pairs: usize = 0;
+    for piece in pieces {
+        pairs = pairs.saturating_add(piece.entries().len());
+    }
+    pairs
+}
+
+// The pairs of all lists, one list after the other: behind those of the first one, which stay where they are if they can.
 fn joined(alloc: Global, pieces: Vec<EdgeList>) -> Result<Vec<(Edge, Sample)>, Memory>
     ensures { IfOk result (λ pairs. pairs.items ≡ flat_map (λ piece. piece) pieces.items) }
 {
+    let all = pairs_in(&pieces);
     let mut pairs = Vec::new(alloc);
     for piece in pieces {
         let mut more = piece.into_vec();
-        pairs.append(&mut more)?;
+        move_behind(&mut pairs, &mut more)?;
+        pairs.reserve(all.saturating_sub(pairs.len()))?;
     }
     Ok(pairs)
 }
 
 /// The same as [`edges_of`], by so many threads, or one where there are few events. Each thread goes through lists that
 /// follow one another, about as many events as each other one does, since an edge of a lesser thread is below all edges
-/// of a greater one. A list that is longer than that is cut into parts, whose edges are merged.
+/// of a greater one. A list with half as many again is cut into parts, whose edges are merged.
 ///
 /// A thread that goes through a part of a list goes through the events before it, too, without their edges.
 pub fn edges_of_parallel(

@@ -10,7 +10,7 @@ pub loop-piece-preserved : goal.loop-piece-preserved
 loop-piece-preserved c =
     let pairs = c.loop-piece.pairs.items in
     let rest = into_iter_items c.next.new.self in
-    ap (λ xs. xs ++ flat_map (λ piece. piece) rest) (c.in_ok-append.ensures.items ∙ ap (λ more. pairs ++ more) c.into_vec-more.ensures.pairs)
+    ap (λ xs. xs ++ flat_map (λ piece. piece) rest) (c.in_ok-reserve.ensures.items ∙ c.in_ok-move_behind.ensures.all ∙ ap (λ more. pairs ++ more) c.into_vec-more.ensures.pairs)
     ∙ append_assoc pairs c.in-Some.piece (flat_map (λ piece. piece) rest)
     ∙ ap (λ pieces. pairs ++ flat_map (λ piece. piece) pieces) (sym c.in-Some.ensures.steps.0)
     ∙ c.loop-piece.invariant

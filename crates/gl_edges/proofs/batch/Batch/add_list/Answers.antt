@@ -9,7 +9,7 @@ returns c =
     let ended = c.self.inside.ended.items in
     let pairs = c.self.inside.pairs.items in
     let list = c.args.list in
-    rw (c.in_ok-append.ensures.items, c.into_vec-pairs.ensures.pairs)
+    rw (c.in_ok-move_behind.ensures.all, c.into_vec-pairs.ensures.pairs)
     (ap once (sym (append_assoc ended pairs list))
     ∙ sym (once_before (ended ++ pairs) list)
     ∙ ap (λ held. once (held ++ list)) c.self.view_is)
