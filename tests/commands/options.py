@@ -89,8 +89,8 @@ def threads_that_read(program):
         small = 8000 if words in ("predict", "stats") else 16000  # beyond that these look for edges by several threads
         for jobs in (1, 2):
             got = program.counts(f"{words} --jobs {jobs}", trace)[0]
-            for_edges = 1 if jobs == 2 and words in ("predict", "stats") else 0
-            program.expect(f"{words} --jobs {jobs} starts {for_edges} threads, not {got}", got == for_edges)
+            later = 2 if jobs == 2 and words in ("predict", "stats") else 0  # one for edges, and one for the order
+            program.expect(f"{words} --jobs {jobs} starts {later} threads, not {got}", got == later)
         for jobs in (3, 16):
             got = program.counts(f"{words} --jobs {jobs}", trace)[0]
             program.expect(f"{words} --jobs {jobs} starts threads", got > 1)

@@ -29,7 +29,10 @@ use gl_segments::{Order, OrderFault};
 use gl_std::{Names, ReadFault, Trace};
 use gl_writing::write_trace;
 use std::alloc::Global;
-use std::thread::Threads;
+use std::thread::{Threads, join_mut};
+
+// The order of so many events is found in a tenth of a millisecond or two.
+const FEW: usize = 65_536;
 
 /// What a command prints of a text.
 #[derive(Drop, Debug)]
@@ -138,23 +141,46 @@ fn report_over(
     report_with_parallel(rt, alloc, contents, edges, order, query)
 }
 
-// The report of a trace whose segments have this order. So many threads look for its edges.
-fn report_by(
+// Whether a trace has so many events that finding its order takes longer than starting a thread.
+fn is_long(trace: &Trace) -> bool {
+    let mut events: usize = 0;
+    for list in trace.lists.as_slice() {
+        events = events.saturating_add(list.len());
+    }
+    events > FEW
+}
+
+// The order of a trace's segments, or the line that says which one is before itself; and the trace's edges. Where
+// several threads look for those of a long trace, the order is found in one more meanwhile.
+fn order_and_edges(
     rt: &(impl Threads + Sync),
     alloc: Global,
     trace: &Trace,
-    order: &Order,
-    contents: Contents,
-    query: &Query,
     threads: usize,
-) -> Result<Report, Memory>
+) -> (Result<Order, Ended>, Result<EdgeList, Memory>)
     requires { IsTraceOver greatest trace.now }
-    ensures { IfOk result
-        (λ r. r
-        ≡ report_with contents query.now (is_before order.now) (edges trace.now.lists)) }
+    ensures order { IfOk result.0 (λ order. OrdersBy trace.now.lists order) }
+    ensures consistent { OnOk result.0 (IsConsistent trace.now.lists) }
+    ensures refused { IfErr result.0 (λ ended. IfRefused ended (IsLoopOf trace.now)) }
+    ensures edges { IfOk result.1 (λ es. es ≡ edges trace.now.lists) }
 {
-    let edges = edges_in(rt, alloc, trace, threads)?;
-    report_over(rt, alloc, contents, edges, order, query, threads)
+    if threads < 2 || !is_long(trace) {
+        return (
+            order_or_line(alloc, trace),
+            edges_in(rt, alloc, trace, threads),
+        );
+    }
+    let mut ordering = || -> Result<Order, Ended>
+        requires { IsTraceOver greatest trace.now }
+        ensures order { IfOk result (λ order. OrdersBy trace.entry.now.lists order) }
+        ensures consistent { OnOk result (IsConsistent trace.entry.now.lists) }
+        ensures refused { IfErr result (λ ended. IfRefused ended (IsLoopOf trace.entry.now)) }
+    { order_or_line(alloc, trace) };
+    let mut looking = || -> Result<EdgeList, Memory>
+        requires { IsTraceOver greatest trace.now }
+        ensures { IfOk result (λ es. es ≡ edges trace.entry.now.lists) }
+    { edges_in(rt, alloc, trace, threads) };
+    join_mut(rt, &mut ordering, &mut looking)
 }
 
 // The report of a trace, or the line that says which segment is before itself.
@@ -170,8 +196,10 @@ fn report_or_line(
     ensures report { IfOk result (λ r. IsReportOf contents query.now (Ok trace.now) trace.now r) }
     ensures refused { IfErr result (λ ended. IfRefused ended (IsLoopOf trace.now)) }
 {
-    let order = order_or_line(alloc, trace)?;
-    let report = report_by(rt, alloc, trace, &order, contents, query, threads)?;
+    let (order, edges) = order_and_edges(rt, alloc, trace, threads);
+    let order = order?;
+    let edges = edges?;
+    let report = report_over(rt, alloc, contents, edges, &order, query, threads)?;
     Ok(report)
 }
 
