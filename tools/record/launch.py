@@ -586,6 +586,9 @@ def main(read, used):
     except Failed as failure:
         say(str(failure))
         return failure.status
+    except KeyboardInterrupt:  # before the program is run, or in --convert: else signals wait
+        say("interrupted")
+        return STATUS_FAILED
     except Exception as failure:  # Python's own status 1 could be the program's
         say("internal error: %r" % failure)
         return STATUS_FAILED

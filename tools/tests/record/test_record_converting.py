@@ -1,12 +1,13 @@
 """Traces of what a recording left behind: `--convert`."""
 
 import os
+import signal
 import subprocess
 
 import pytest
 from c_programs import end, raw_directories, raw_directory
 from c_traces import PAIR, convert, known
-from known_traces import LIMIT, RECORD, REFUSED, clear, compare, read_lines, start
+from known_traces import LIMIT, RECORD, REFUSED, clear, compare, read_lines, start, wait_for
 
 
 def orphan(name="waits_for_signal"):
@@ -129,3 +130,25 @@ def test_killed_while_it_converts():
             assert whole is not None, "neither trace nor recording is there"
             break
     assert not os.path.exists(directory), "it was never converted"
+
+
+def test_interrupted_while_it_converts():
+    """As by Ctrl-C, which all that run in the terminal get: a line says so, and what was recorded is kept."""
+    program, directory = orphan()
+    end(program)
+    os.mkdir("bin")
+    with open("bin/addr2line", "w") as file:
+        file.write("#!/bin/sh\ntouch begun\nexec sleep 60\n")
+    os.chmod("bin/addr2line", 0o755)
+    running = subprocess.Popen(
+        [RECORD, "-o", "whole.std", "--convert", directory],
+        stderr=subprocess.PIPE,
+        env={**os.environ, "PATH": os.path.abspath("bin") + ":" + os.environ["PATH"]},
+        start_new_session=True,
+    )
+    wait_for(lambda: os.path.exists("begun"), "the places to be looked for")
+    os.killpg(running.pid, signal.SIGINT)
+    _, said = running.communicate(timeout=LIMIT)
+    assert (running.returncode, said) == (REFUSED, b"goodlock-record: interrupted\n"), (running.returncode, said)
+    assert convert(directory, "whole.std").returncode == 0, "what was recorded is lost"
+    compare(read_lines("whole.std"), known(PAIR))
