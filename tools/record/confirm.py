@@ -128,6 +128,8 @@ def read_arguments(arguments):
     settings.command = rest[1:]
     if settings.report is None or not settings.command:
         raise Failed(USAGE)
+    if settings.command[0] == "":
+        raise Failed("the program's name is empty\n%s" % USAGE)
     if settings.output is not None and os.path.lexists(settings.output):
         raise Failed("%s exists already; nothing was run" % settings.output)
     return settings

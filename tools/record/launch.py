@@ -245,6 +245,8 @@ def read_words(arguments, explanation, usage, flags, values):
     settings.command = rest
     if not settings.command and settings.convert is None:
         raise Failed(usage)
+    if settings.command and settings.command[0] == "":
+        raise Failed("the program's name is empty\n%s" % usage)
     settings.trace = settings.trace or ("goodlock.report" if settings.live else "goodlock.std")
     return settings
 

@@ -82,6 +82,15 @@ def test_a_name_that_is_empty(recorder, option):
     assert not os.path.exists("was-run"), "the program was run"
 
 
+@pytest.mark.parametrize("recorder", ["goodlock-record", "goodlock-python", "goodlock-java", "goodlock-confirm"])
+def test_a_program_whose_name_is_empty(recorder):
+    """As of a variable that isn't set: nothing else is said of why there is no trace."""
+    words = ["report.json", "--"] if recorder == "goodlock-confirm" else ["-o", "t.std"]
+    done = subprocess.run([os.path.join(TOOLS, recorder), *words, "", "argument"], stderr=subprocess.PIPE)
+    said = done.stderr.decode()
+    assert done.returncode == REFUSED and said.startswith(f"{recorder}: the program's name is empty\nusage:"), said
+
+
 @pytest.mark.parametrize("room, status", [(0, 0), (-1, REFUSED)])
 def test_a_folder_that_lies_very_deep(room, status, monkeypatch):
     """A recorded process keeps 2,999 bytes of a recording's path: where that is longer, nothing is run."""
