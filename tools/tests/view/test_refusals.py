@@ -272,3 +272,13 @@ def test_the_same_input_gives_the_same_bytes():
         assert (done.returncode, done.stderr) == (1, b"")
         made.append([done.stdout] + [pathlib.Path(name).read_bytes() for name in names])
     assert made[0] == made[1]
+
+
+def test_interrupted_as_it_begins(monkeypatch):
+    """While its own parts are loaded: a line says so, as it does afterwards."""
+    os.mkdir("modules")
+    with open("modules/argparse.py", "w", encoding="utf-8") as file:
+        file.write("raise KeyboardInterrupt\n")
+    monkeypatch.setenv("PYTHONPATH", os.path.abspath("modules"))
+    done = subprocess.run([str(TOOL), "none.json"], capture_output=True)
+    assert (done.returncode, done.stdout, done.stderr) == (2, b"", b"goodlock-view: interrupted\n"), done
