@@ -52,9 +52,18 @@ def false_alarm(predict, name):
     assert status == NOT_SEEN and out == "not seen in 2 tries\n", "status %d: %s%s" % (status, out, said)
 
 
+def told(process):
+    """What the system says of a process, for whoever reads that it still runs."""
+    try:
+        with open("/proc/%d/stat" % process, encoding="utf-8", errors="replace") as status:
+            return status.read()[:80]
+    except OSError as error:
+        return "%d: %s" % (process, error.strerror)
+
+
 def check_that_nothing_is_left(folder):
     """No folder of a confirmation, and no process of the program that runs in this folder."""
     left = [name for name in os.listdir(folder / TEMPORARY) if name.startswith("goodlock-confirm.")]
     assert not left, str(left)
     running = processes_in(folder)
-    assert not running, "processes %s still run" % running
+    assert not running, "these processes still run: %s" % [told(process) for process in running]
