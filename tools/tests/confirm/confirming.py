@@ -5,7 +5,6 @@ import os
 import re
 import subprocess
 import sys
-import time
 
 from c_programs import RECORD, REFERENCE, TOOLS
 from known_traces import LIMIT, processes_in
@@ -13,7 +12,6 @@ from known_traces import LIMIT, processes_in
 CONFIRM = os.path.join(TOOLS, "goodlock-confirm")
 VIEW = os.path.join(TOOLS, "goodlock-view")
 NOT_SEEN, DEADLOCKED, ERROR = 0, 1, 125
-GONE = 5  # seconds at most until what was ended is gone: a busy machine takes a moment for that
 TEMPORARY = "temporary"  # the folder for temporary files, in that of the test
 NOBODY = {"user": 65534, "group": 65534, "extra_groups": []}
 PATIENTLY = ["--tries", "20", "--seconds", "%d" % LIMIT]  # for machines on which threads come late
@@ -67,8 +65,5 @@ def check_that_nothing_is_left(folder):
     """No folder of a confirmation, and no process of the program that runs in this folder."""
     left = [name for name in os.listdir(folder / TEMPORARY) if name.startswith("goodlock-confirm.")]
     assert not left, str(left)
-    limit = time.monotonic() + GONE
-    while processes_in(folder) and time.monotonic() < limit:
-        time.sleep(0.05)
     running = processes_in(folder)
     assert not running, "these processes still run: %s" % [told(process) for process in running]
