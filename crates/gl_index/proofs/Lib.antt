@@ -1,3 +1,4 @@
+pub mod LockValues
 pub mod Lists
 pub mod Tables
 pub mod Listed

@@ -2,6 +2,7 @@
 use Rattle.std.specs.Prelude.{◌≡◌, ℕ, ◌+◌, Bool, ◌&&◌, List, [], length, Option, Some, nat_eq, slice_get}
 use Rattle.std.specs.HashMap.{get}
 use Rattle.gl_edges.specs.declared.edge.Edge.{Edge}
+use Rattle.gl_index.specs.ByLock.{value_at}
 use Rattle.gl_index.specs.Listed.{IsNextWith, AreListed}
 use Rattle.gl_index.specs.Sides.{lock_towards}
 use Rattle.gl_index.specs.declared.chains.Chain.{Chain}
@@ -11,7 +12,7 @@ use Rattle.gl_index.specs.declared.sides.Side.{Side}
 
 -- where a lock stands first
 abbrev pub first_in_chain : Chain → ℕ → Option ℕ
-first_in_chain chain lock = get nat_eq chain.first lock
+first_in_chain chain lock = value_at chain.first lock
 
 -- the edges from position n on that are kept are in the index by their locks on this side
 abbrev pub AreChainedKept : Side → List Edge → List Bool → ℕ → Chain → Type 0

@@ -1,3 +1,4 @@
+pub mod ByLock
 pub mod Indexes
 pub mod Listed
 pub mod Sides

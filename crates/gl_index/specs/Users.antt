@@ -1,14 +1,14 @@
 -- Which threads use each lock: those of the edges that have it on one side.
-use Rattle.std.specs.Prelude.{◌≡◌, ◌≢◌, ℕ, ◌<◌, ◌⊎◌, ◌==◌, false, List, Bool, slice_get, Option, Some, None, nat_eq, if◌then◌else◌}
-use Rattle.std.specs.HashMap.{get}
+use Rattle.std.specs.Prelude.{◌≡◌, ◌≢◌, ℕ, ◌<◌, ◌⊎◌, ◌==◌, false, List, Bool, slice_get, Option, Some, None, if◌then◌else◌}
 use Rattle.gl_edges.specs.declared.edge.Edge.{Edge}
+use Rattle.gl_index.specs.ByLock.{value_at}
 use Rattle.gl_index.specs.Sides.{lock_towards}
 use Rattle.gl_index.specs.declared.sides.Side.{Side}
 use Rattle.gl_index.specs.declared.users.Users.{Users}
 
 -- what is known of a lock: one thread, or that there are several
 abbrev pub known_of : Users → ℕ → Option (Option ℕ)
-known_of users lock = get nat_eq users.by_lock lock
+known_of users lock = value_at users.by_lock lock
 
 -- nothing is known of any lock
 abbrev pub NoneUse : Users → Type 0

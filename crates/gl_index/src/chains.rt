@@ -7,24 +7,24 @@ ghost use Rattle.gl_index.specs.Sides.{lock_towards};
 ghost use Rattle.gl_edges.specs.declared.edge.Edge.{Edge};
 ghost use Rattle.gl_index.specs.declared.sides.Side.{Side};
 
+use crate::by_lock::ByLock;
 use crate::sides::Side;
 use gl_edges::{Edge, Sample};
 use gl_event::{LockId, Memory};
 use std::alloc::Global;
-use std::collections::HashMap;
 
 /// Leads from a lock through the positions of the edges that have it on one side, ascending, but for
 /// edges that are left out.
 #[derive(Drop)]
 pub struct Chain {
     /// The first position of each lock.
-    pub first: HashMap<LockId, usize>,
+    pub first: ByLock<usize>,
     /// For each position the next one with the same lock.
     pub next: Vec<Option<usize>>,
 }
 
 impl Chain {
-    /// The index of the edges of a table by their locks on a side. Two look-ups for each edge.
+    /// The index of the edges of a table by their locks on a side. Two look-ups by lock for each edge.
     ///
     /// Err where memory was refused.
     pub fn of(alloc: Global, table: &[(Edge, Sample)], side: Side) -> Result<Chain, Memory>
@@ -34,7 +34,7 @@ impl Chain {
     }
 
     /// The same of the edges that are kept: those that have no flag, or whose flag is set. Two look-ups
-    /// for each edge at most.
+    /// by lock for each edge at most.
     ///
     /// Err where memory was refused.
     pub fn of_kept(
@@ -47,7 +47,7 @@ impl Chain {
             (λ chain. AreChainedKept side (edges_of_table table.now) kept.now 0 chain) }
     {
         let mut chain = Chain {
-            first: HashMap::new(alloc),
+            first: ByLock::for_edges(alloc, table.len()),
             next: vec![in alloc; None; table.len()]?,
         };
         for i in (0..table.len()).rev() {
@@ -66,11 +66,11 @@ impl Chain {
             → (is_kept ≡ false ↔ slice_get kept i ≡ Some false)
             → OnOk result (AreChainedKept side edges kept i self.new) }
     {
-        self.next[i] = self.first.get(&lock).copied();
         if !is_kept {
+            self.next[i] = self.first.get(lock);
             return Ok(());
         }
-        self.first.insert(lock, i)?;
+        self.next[i] = self.first.insert(lock, i)?;
         Ok(())
     }
 
@@ -80,7 +80,7 @@ impl Chain {
             → AreChainedKept side edges kept 0 self.now
             → IsNextWith (lock_towards side) edges kept lock 0 result }
     {
-        self.first.get(&lock).copied()
+        self.first.get(lock)
     }
 
     /// The position after `i` of the next edge with the lock of the edge at `i`.

@@ -21,8 +21,7 @@ pub struct Closers {
 }
 
 impl Closers {
-    /// The index of the edges of a table, of which some are kept. Two look-ups for each edge at
-    /// most.
+    /// The index of the edges of a table, of which some are kept. One look-up for each edge.
     ///
     /// Err where memory was refused.
     pub fn of(alloc: Global, table: &[(Edge, Sample)], kept: &[bool]) -> Result<Closers, Memory>
@@ -50,11 +49,11 @@ impl Closers {
             → both_locks e ≡ locks → slice_get kept i ≡ Some is_kept
             → OnOk result (AreClosers edges kept i self.new) }
     {
-        self.next[i] = self.first.get(&locks).copied();
         if !is_kept {
+            self.next[i] = self.first.get(&locks).copied();
             return Ok(());
         }
-        self.first.insert(locks, i)?;
+        self.next[i] = self.first.insert(locks, i)?;
         Ok(())
     }
 

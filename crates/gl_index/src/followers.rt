@@ -25,8 +25,8 @@ pub struct Followers {
 }
 
 impl Followers {
-    /// The index of the edges of a table, of which some are kept. Five look-ups for each edge
-    /// at most.
+    /// The index of the edges of a table, of which some are kept. Four look-ups for each edge
+    /// at most, three of them by lock.
     ///
     /// Err where memory was refused.
     pub fn of(alloc: Global, table: &[(Edge, Sample)], kept: &[bool]) -> Result<Followers, Memory>
@@ -76,7 +76,7 @@ fn firsts(
 {
     let mut firsts = Vec::new(alloc);
     for i in 0..table.len() {
-        firsts.push(holders.first.get(&table[i].0.wanted).copied())?;
+        firsts.push(holders.first.get(table[i].0.wanted))?;
     }
     Ok(firsts)
 }

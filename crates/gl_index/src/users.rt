@@ -4,24 +4,24 @@ ghost use Rattle.gl_filters.specs.Picked.{edges_of_table};
 ghost use Rattle.gl_index.specs.Sides.{lock_towards};
 ghost use Rattle.gl_index.specs.Users.{AddsUser, AreUsers, MayUse, NoneUse, UseAsKnown};
 
+use crate::by_lock::ByLock;
 use crate::chains::is_kept;
 use crate::sides::Side;
 use gl_edges::{Edge, Sample};
 use gl_event::{LockId, Memory, ThreadId};
 use std::alloc::Global;
-use std::collections::HashMap;
 
 /// Which threads use each lock: those of the edges that have it on one side. Of a lock no more is known than
 /// its one thread, or that there are several.
 #[derive(Drop)]
 pub struct Users {
     /// The one thread of a lock, and none where there are several. No edge has a lock that isn't there.
-    pub by_lock: HashMap<LockId, Option<ThreadId>>,
+    pub by_lock: ByLock<Option<ThreadId>>,
 }
 
 impl Users {
     /// The users of the locks on a side of the edges of a table that are kept: those that have no flag, or
-    /// whose flag is set. Two look-ups for each edge at most.
+    /// whose flag is set. Two look-ups by lock for each edge at most.
     ///
     /// Err where memory was refused.
     pub fn of_kept(
@@ -37,19 +37,19 @@ impl Users {
             (λ users. UseAsKnown side (edges_of_table table.now) kept.now
             (length table.now) users) }
     {
-        let mut users = Users::none(alloc);
+        let mut users = Users::none(alloc, table.len());
         for i in 0..table.len() {
             users.add_kept(is_kept(kept, i), side, &table[i].0)?;
         }
         Ok(users)
     }
 
-    // No lock is used.
-    fn none(alloc: Global) -> Users
+    // No lock of so many edges is used.
+    fn none(alloc: Global, edges: usize) -> Users
         ensures { NoneUse result }
     {
         Users {
-            by_lock: HashMap::new(alloc),
+            by_lock: ByLock::for_edges(alloc, edges),
         }
     }
 
@@ -57,7 +57,7 @@ impl Users {
     fn add(&mut self, lock: LockId, thread: ThreadId) -> Result<(), Memory>
         ensures { OnOk result (AddsUser self.old lock thread self.new) }
     {
-        let Some(known) = self.by_lock.get(&lock).copied() else {
+        let Some(known) = self.by_lock.get(lock) else {
             self.by_lock.insert(lock, Some(thread))?;
             return Ok(());
         };
@@ -87,7 +87,7 @@ impl Users {
     pub fn has_only(&self, lock: LockId, thread: ThreadId) -> bool
         ensures { IsTrue result ↔ ((t : ℕ) → MayUse self.now lock t → t ≡ thread) }
     {
-        let Some(known) = self.by_lock.get(&lock).copied() else {
+        let Some(known) = self.by_lock.get(lock) else {
             return true;
         };
         let Some(one) = known else {

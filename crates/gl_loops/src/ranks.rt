@@ -14,9 +14,9 @@ ghost use Rattle.gl_loops.specs.bodies.Ranks.{rank_in, shared_rank_in, rank_of_e
 use crate::epochs::Epochs;
 use gl_edges::{Edge, Sample};
 use gl_event::{LockId, LockMode, Memory};
+use gl_index::ByLock;
 use gl_sought::{Numbers, Step, components_of};
 use std::alloc::Global;
-use std::collections::HashMap;
 
 /// Ranks of those who hold locks.
 #[derive(Drop)]
@@ -28,6 +28,24 @@ pub(crate) struct Ranks {
 }
 
 impl Ranks {
+    // No lock of so many edges has a rank.
+    fn none(alloc: Global, edges: usize, has_readers: bool) -> Ranks {
+        Ranks {
+            exclusive: Numbers::none(alloc, edges),
+            shared: has_readers.then(|| Numbers::none(alloc, edges)),
+        }
+    }
+
+    // Gives the lock with this number in the graph the ranks that were found for those who hold it.
+    fn give(&mut self, lock: LockId, number: usize, found: &[Option<usize>]) -> Result<(), Memory> {
+        self.exclusive
+            .give(lock, rank_at(found, number, LockMode::Exclusive))?;
+        let Some(shared) = &mut self.shared else {
+            return Ok(());
+        };
+        shared.give(lock, rank_at(found, number, LockMode::Shared))
+    }
+
     // The rank of those who hold the lock as readers.
     fn shared_rank(&self, lock: LockId) -> usize
         ensures { result ≡ shared_rank_in self.now lock }
@@ -85,65 +103,99 @@ pub(crate) fn ranks_of(alloc: Global, table: &[(Edge, Sample)]) -> Result<Ranks,
     let mut ranks = ranks_of_epochs(alloc, table, &[], &Epochs::one(alloc))?;
     match ranks.pop() {
         Some(ranks) => Ok(ranks),
-        None => Ok(Ranks {
-            exclusive: Numbers::none(alloc),
-            shared: None,
-        }),
+        None => Ok(Ranks::none(alloc, 0, false)),
     }
 }
 
-/// For each epoch the ranks for its edges that are kept: those that have no flag, or whose flag is set. Two look-ups for
-/// each edge, two for each lock of an epoch, and one step of two walks for each edge, or two where there are readers.
+/// For each epoch the ranks for its edges that are kept: those that have no flag, or whose flag is set. Two look-ups by
+/// lock for each edge, two for each lock of an epoch, and one step of two walks for each edge, or two where there are readers.
 pub(crate) fn ranks_of_epochs(
     alloc: Global,
     table: &[(Edge, Sample)],
     kept: &[bool],
     epochs: &Epochs,
 ) -> Result<Vec<Ranks>, Memory> {
-    let mut numbering = Numbering::of(alloc, epochs.count)?;
+    let sizes = sizes_of(alloc, table.len(), kept, epochs)?;
+    let mut numbering = Numbering::of(alloc, &sizes)?;
     let has_readers = has_readers(table);
     let steps = number_locks(alloc, table, kept, epochs, has_readers, &mut numbering)?;
-    let places = place_of(numbering.count, LockMode::Exclusive);
+    let places = place_of(numbering.locks.len(), LockMode::Exclusive);
     let found = components_of(alloc, places, &steps)?;
-    let mut ranks = Vec::with_capacity(alloc, numbering.by_epoch.len())?;
-    for numbers in numbering.by_epoch.iter() {
-        ranks.push(ranks_by(alloc, numbers, has_readers, &found)?)?;
+    let mut ranks = no_ranks(alloc, &sizes, has_readers)?;
+    give_ranks(&mut ranks, &numbering.locks, &found)?;
+    Ok(ranks)
+}
+
+// How many edges that are kept each epoch has.
+fn sizes_of(
+    alloc: Global,
+    edges: usize,
+    kept: &[bool],
+    epochs: &Epochs,
+) -> Result<Vec<usize>, Memory> {
+    let mut sizes = vec![in alloc; 0usize; epochs.count]?;
+    for i in 0..edges {
+        if kept.get(i) == Some(&false) {
+            continue;
+        }
+        if let Some(size) = sizes.get_mut(epochs.epoch(i)) {
+            *size = size.saturating_add(1);
+        }
+    }
+    Ok(sizes)
+}
+
+// No lock has a rank, in epochs of so many edges.
+fn no_ranks(alloc: Global, sizes: &[usize], has_readers: bool) -> Result<Vec<Ranks>, Memory> {
+    let mut ranks = Vec::with_capacity(alloc, sizes.len())?;
+    for &size in sizes {
+        ranks.push(Ranks::none(alloc, size, has_readers))?;
     }
     Ok(ranks)
 }
 
-// What was found for the locks of an epoch.
-fn ranks_by(
-    alloc: Global,
-    numbers: &HashMap<LockId, usize>,
-    has_readers: bool,
+// Gives each lock of each epoch the ranks that were found for it.
+fn give_ranks(
+    ranks: &mut [Ranks],
+    locks: &[(usize, LockId)],
     found: &[Option<usize>],
-) -> Result<Ranks, Memory> {
-    let shared = if has_readers {
-        Some(ranked(alloc, numbers, LockMode::Shared, found)?)
-    } else {
-        None
-    };
-    let exclusive = ranked(alloc, numbers, LockMode::Exclusive, found)?;
-    Ok(Ranks { exclusive, shared })
+) -> Result<(), Memory> {
+    for (number, &(epoch, lock)) in locks.iter().enumerate() {
+        if let Some(ranks) = ranks.get_mut(epoch) {
+            ranks.give(lock, number, found)?;
+        }
+    }
+    Ok(())
+}
+
+// The rank that was found for those who hold the lock with this number in this mode.
+fn rank_at(found: &[Option<usize>], number: usize, mode: LockMode) -> usize {
+    found
+        .get(place_of(number, mode))
+        .copied()
+        .flatten()
+        .unwrap_or(0)
 }
 
 // Numbers of the locks of each epoch, from 0 through all epochs.
 #[derive(Drop)]
 struct Numbering {
-    by_epoch: Vec<HashMap<LockId, usize>>,
-    // how many locks have one
-    count: usize,
+    by_epoch: Vec<ByLock<usize>>,
+    // of which epoch and lock each number is
+    locks: Vec<(usize, LockId)>,
 }
 
 impl Numbering {
-    // No lock of so many epochs has a number yet.
-    fn of(alloc: Global, epochs: usize) -> Result<Numbering, Memory> {
-        let mut by_epoch = Vec::with_capacity(alloc, epochs)?;
-        for _epoch in 0..epochs {
-            by_epoch.push(HashMap::new(alloc))?;
+    // No lock has a number yet, of epochs of so many edges.
+    fn of(alloc: Global, sizes: &[usize]) -> Result<Numbering, Memory> {
+        let mut by_epoch = Vec::with_capacity(alloc, sizes.len())?;
+        for &size in sizes {
+            by_epoch.push(ByLock::for_edges(alloc, size))?;
         }
-        Ok(Numbering { by_epoch, count: 0 })
+        Ok(Numbering {
+            by_epoch,
+            locks: Vec::new(alloc),
+        })
     }
 
     // The number of a lock in an epoch, which is the next one where it had none.
@@ -151,12 +203,12 @@ impl Numbering {
         let Some(numbers) = self.by_epoch.get_mut(epoch) else {
             return Ok(0);
         };
-        if let Some(number) = numbers.get(&lock) {
-            return Ok(*number);
+        if let Some(number) = numbers.get(lock) {
+            return Ok(number);
         }
-        let number = self.count;
+        let number = self.locks.len();
         numbers.insert(lock, number)?;
-        self.count = number.saturating_add(1);
+        self.locks.push((epoch, lock))?;
         Ok(number)
     }
 }
@@ -212,19 +264,4 @@ fn add_step(steps: &mut Vec<Step>, from: usize, to: usize) -> Result<(), Memory>
         steps.push(step)?;
     }
     Ok(())
-}
-
-// What was found for those who hold the locks in this mode.
-fn ranked(
-    alloc: Global,
-    numbers: &HashMap<LockId, usize>,
-    mode: LockMode,
-    found: &[Option<usize>],
-) -> Result<Numbers, Memory> {
-    let mut by_lock = HashMap::new(alloc);
-    for (lock, &number) in numbers.iter() {
-        let rank = found.get(place_of(number, mode)).copied().flatten();
-        by_lock.insert(*lock, rank.unwrap_or(0))?;
-    }
-    Ok(Numbers::new(by_lock))
 }

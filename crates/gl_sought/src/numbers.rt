@@ -1,19 +1,21 @@
 //! Numbers of locks, and distances between them.
-ghost use Rattle.std.specs.Prelude.{◌≡◌, map, IfOk};
+ghost use Rattle.std.specs.Prelude.{◌≡◌, ℕ, ◌==◌, map, IfOk, OnOk, if◌then◌else◌};
 ghost use Rattle.gl_filters.specs.Picked.{edges_of_table};
 ghost use Rattle.gl_sought.specs.Numbers.{number_in};
 ghost use Rattle.gl_sought.specs.Walks.{ends_in, AreEnds};
 
 use gl_edges::{Edge, Sample};
 use gl_event::{LockId, Memory};
+use gl_index::ByLock;
 use std::alloc::Global;
-use std::collections::HashMap;
 
 /// A number for each lock of a table.
 #[derive(Drop)]
 pub struct Numbers {
     // locks that aren't there have number 0
-    by_lock: HashMap<LockId, usize>,
+    by_lock: ByLock<usize>,
+    // what all numbers are below
+    count: usize,
 }
 
 /// The numbers of the locks that an edge holds and wants.
@@ -24,39 +26,55 @@ pub struct Ends {
 }
 
 impl Numbers {
-    /// The locks of a table, numbered from 0 in order of first mention. Two look-ups for each edge, and two for
-    /// each lock. Err where memory was refused.
+    /// The locks of a table, numbered from 0 in order of first mention. Two look-ups by lock for each edge, and
+    /// one for each lock. Err where memory was refused.
     pub fn of(alloc: Global, table: &[(Edge, Sample)]) -> Result<Numbers, Memory> {
-        let mut by_lock = HashMap::new(alloc);
+        let mut numbers = Numbers::none(alloc, table.len());
         for (edge, _) in table {
-            number_of(&mut by_lock, edge.held)?;
-            number_of(&mut by_lock, edge.wanted)?;
+            numbers.add(edge.held)?;
+            numbers.add(edge.wanted)?;
         }
-        Ok(Numbers { by_lock })
+        Ok(numbers)
     }
 
-    /// These numbers of locks.
-    pub fn new(by_lock: HashMap<LockId, usize>) -> Numbers {
-        Numbers { by_lock }
-    }
-
-    /// No lock has a number.
-    pub fn none(alloc: Global) -> Numbers {
+    /// No lock of so many edges has a number.
+    pub fn none(alloc: Global, edges: usize) -> Numbers
+        ensures { (lock : ℕ) → number_in result lock ≡ 0 }
+    {
         Numbers {
-            by_lock: HashMap::new(alloc),
+            by_lock: ByLock::for_edges(alloc, edges),
+            count: 0,
         }
     }
 
-    /// How many locks have a number.
+    /// Gives a lock this number. Err where memory was refused.
+    pub fn give(&mut self, lock: LockId, number: usize) -> Result<(), Memory>
+        ensures { OnOk result ((l : ℕ) → number_in self.new l
+            ≡ (if lock == l then number else number_in self.old l)) }
+    {
+        self.by_lock.insert(lock, number)?;
+        self.count = self.count.max(number.saturating_add(1));
+        Ok(())
+    }
+
+    // Gives a lock the next number, if it has none.
+    fn add(&mut self, lock: LockId) -> Result<(), Memory> {
+        if self.by_lock.get(lock).is_some() {
+            return Ok(());
+        }
+        self.give(lock, self.count)
+    }
+
+    /// What all numbers are below: how many there are where they are those of a table.
     pub fn count(&self) -> usize {
-        self.by_lock.len()
+        self.count
     }
 
     /// The number of a lock; 0 where it has none.
     pub fn number(&self, lock: LockId) -> usize
         ensures { result ≡ number_in self.now lock }
     {
-        self.by_lock.get(&lock).copied().unwrap_or(0)
+        self.by_lock.get(lock).unwrap_or(0)
     }
 
     // The numbers of the locks of an edge.
@@ -69,7 +87,7 @@ impl Numbers {
         }
     }
 
-    /// The numbers of the locks of each edge of a table. Two look-ups for each. Err where memory was refused.
+    /// The numbers of the locks of each edge of a table. Two look-ups by lock for each. Err where memory was refused.
     pub fn of_edges(&self, alloc: Global, table: &[(Edge, Sample)]) -> Result<Vec<Ends>, Memory>
         ensures { IfOk result
             (λ ends. AreEnds (number_in self.now) (edges_of_table table.now) ends.items) }
@@ -80,14 +98,4 @@ impl Numbers {
         }
         Ok(ends)
     }
-}
-
-// The number of a lock, which is the next one where it had none.
-fn number_of(numbers: &mut HashMap<LockId, usize>, lock: LockId) -> Result<usize, Memory> {
-    if let Some(number) = numbers.get(&lock) {
-        return Ok(*number);
-    }
-    let number = numbers.len();
-    numbers.insert(lock, number)?;
-    Ok(number)
 }

@@ -1,7 +1,7 @@
-use Rattle.std.proofs.Common.{sym, subst, ◌∙◌}
+use Rattle.std.proofs.Common.{sym, subst}
 use Rattle.gl_index.specs.Listed.{IsNextWith}
 use Rattle.gl_index.specs.Sides.{lock_towards}
 use Rattle.gl_index.proofs.chains.Chain.begin.Goals as goal
 
 pub returns : goal.returns
-returns c = λ edges kept side are. subst (IsNextWith (lock_towards side) edges kept c.args.lock 0) (sym (c.copied.ensures ∙ c.get.ensures.value)) (are.begins c.args.lock)
+returns c = λ edges kept side are. subst (IsNextWith (lock_towards side) edges kept c.args.lock 0) (sym c.get.ensures) (are.begins c.args.lock)

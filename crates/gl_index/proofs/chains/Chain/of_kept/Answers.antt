@@ -1,10 +1,8 @@
-use Rattle.std.proofs.Common.{◌≡◌, ◌+◌, ◌-◌, ◌<◌, length, get_or, sym, ap, subst, arith}
+use Rattle.std.proofs.Common.{◌≡◌, ◌+◌, ◌-◌, ◌<◌, length, get_or, sym, subst, arith}
 use Rattle.std.proofs.lemmas.List.{length-map}
 use Rattle.gl_filters.specs.Picked.{edges_of_table}
 use Rattle.gl_index.specs.Indexes.{AreChainedKept}
 use Rattle.gl_index.specs.Sides.{lock_towards}
-use Rattle.std.specs.Map.{lookup}
-use Rattle.std.specs.Prelude.{nat_eq}
 use Rattle.gl_index.proofs.Listed.{none_listed}
 use Rattle.gl_index.proofs.Tables.{edge_at}
 use Rattle.gl_index.proofs.chains.Chain.of_kept.Goals as goal
@@ -12,7 +10,7 @@ use Rattle.gl_index.proofs.chains.Chain.of_kept.Goals as goal
 pub loop-i-init : goal.loop-i-init
 loop-i-init c =
     none_listed (lock_towards c.args.side) (edges_of_table c.args.table.now) c.args.kept.now (length c.args.table.now) _ c.in_ok-vec.field-0.items (sym (length-map c.args.table.now (λ pair. pair.0)))
-    (omega (arith, c.in_ok-vec.field-0.ok.0, c.in_ok-vec.ensures.len, length-map c.args.table.now (λ pair. pair.0))) (λ k. ap (λ es. lookup (λ q. nat_eq k q) es) c.new.ensures.empty)
+    (omega (arith, c.in_ok-vec.field-0.ok.0, c.in_ok-vec.ensures.len, length-map c.args.table.now (λ pair. pair.0))) c.for_edges.ensures
 
 pub loop-i-preserved : goal.loop-i-preserved
 loop-i-preserved c =

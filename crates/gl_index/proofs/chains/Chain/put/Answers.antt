@@ -8,11 +8,11 @@ use Rattle.gl_index.proofs.chains.Chain.put.Goals as goal
 pub returns-then-not-is_kept : goal.returns-then-not-is_kept
 returns-then-not-is_kept c = λ edges kept side e had at is flag.
     let s = c.args.self.now in
-    listed_passed (lock_towards side) edges kept c.args.i e at (first_in_chain s) _ s.next.items _ had (ap (set s.next.items c.args.i) (c.copied.ensures ∙ c.get.ensures.value ∙ ap (first_in_chain s) (sym is))) (λ k. refl) (flag.0 c.if-not-is_kept.true)
+    listed_passed (lock_towards side) edges kept c.args.i e at (first_in_chain s) _ s.next.items _ had (ap (set s.next.items c.args.i) (c.get.ensures ∙ ap (first_in_chain s) (sym is))) (λ k. refl) (flag.0 c.if-not-is_kept.true)
 
 -- it is the first that has its lock
 pub returns : goal.returns
 returns c = λ edges kept side e had at is flag.
     let s = c.args.self.now in
-    listed_more (lock_towards side) edges kept c.args.i e at (first_in_chain s) _ s.next.items _ had (ap (set s.next.items c.args.i) (c.copied.ensures ∙ c.get.ensures.value ∙ ap (first_in_chain s) (sym is))) eqb tells_lock
-    (λ k. rw is (c.in_ok-insert.ensures.updates.0 k)) (λ out. absurd (let e = flag.1 out in let f = c.if-not-is_kept.false in cc))
+    listed_more (lock_towards side) edges kept c.args.i e at (first_in_chain s) _ s.next.items _ had (ap (set s.next.items c.args.i) (c.in_ok-self.ensures.old ∙ ap (first_in_chain s) (sym is))) eqb tells_lock
+    (λ k. rw is (c.in_ok-self.ensures.put k)) (λ out. absurd (let e = flag.1 out in let f = c.if-not-is_kept.false in cc))

@@ -13,5 +13,5 @@ returns-then-not-is_kept c = λ edges kept e had at is flag.
 pub returns : goal.returns
 returns c = λ edges kept e had at is flag.
     let s = c.args.self.now in
-    listed_more both_locks edges kept c.args.i e at (first_of_locks s) _ s.next.items _ had (ap (set s.next.items c.args.i) (c.copied.ensures ∙ c.get.ensures.value ∙ ap (first_of_locks s) (sym is))) same_locks tells_locks
-    (λ k. c.in_ok-insert.ensures.updates.0 k ∙ ap (λ locks. cond (same_locks locks k) (Some c.args.i) (first_of_locks s k)) (sym is)) (λ out. absurd (let e = sym flag ∙ out in let f = c.if-not-is_kept.false in cc))
+    listed_more both_locks edges kept c.args.i e at (first_of_locks s) _ s.next.items _ had (ap (set s.next.items c.args.i) (c.in_ok-self.ensures.old ∙ ap (first_of_locks s) (sym is))) same_locks tells_locks
+    (λ k. c.in_ok-self.ensures.updates.0 k ∙ ap (λ locks. cond (same_locks locks k) (Some c.args.i) (first_of_locks s k)) (sym is)) (λ out. absurd (let e = sym flag ∙ out in let f = c.if-not-is_kept.false in cc))

@@ -4,8 +4,8 @@ use Rattle.gl_index.proofs.users.Users.has_only.Goals as goal
 
 pub returns-in_default-known : goal.returns-in_default-known
 returns-in_default-known c =
-    only_several c.args.self.now c.args.lock c.args.thread (sym (c.copied.ensures ∙ c.get.ensures.value) ∙ c.in-Some.is ∙ ap Some c.in_default-known.is)
+    only_several c.args.self.now c.args.lock c.args.thread (sym c.get.ensures ∙ c.in-Some.is ∙ ap Some c.in_default-known.is)
 
 pub returns : goal.returns
 returns c =
-    only_one c.args.self.now c.args.lock c.args.thread c.in-Some-known.one c.eq.result (sym (c.copied.ensures ∙ c.get.ensures.value) ∙ c.in-Some.is ∙ ap Some c.in-Some-known.is) c.eq.ensures
+    only_one c.args.self.now c.args.lock c.args.thread c.in-Some-known.one c.eq.result (sym c.get.ensures ∙ c.in-Some.is ∙ ap Some c.in-Some-known.is) c.eq.ensures
