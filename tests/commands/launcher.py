@@ -25,6 +25,7 @@ WORDS = ("predict", "--len", "a b")
 
 PROGRAM = r"""#!/bin/sh
 for word; do printf '<%s>' "$word"; done
+[ -z "$TELL" ] || printf '%s' "$GLIBC_TUNABLES"
 cat
 echo "said by {0}" >&2
 exit 1
@@ -289,6 +290,14 @@ def carried_program(clone):
     equal(clone.run("predict", GOODLOCK_WHICH="1"), (f"{clone.top}/prebuilt/goodlock\n", "", 0, []))
 
 
+def large_pages(clone):
+    """They are asked for, but where somebody says how memory is to be given, or that nothing is to be said of it."""
+    asked = "glibc.malloc.hugetlb=1:glibc.malloc.top_pad=67108864"
+    equal(clone.run("predict", TELL="1")[0], f"<predict>{asked}")
+    for own in ("glibc.malloc.arena_max=1", ""):
+        equal(clone.run("predict", TELL="1", GLIBC_TUNABLES=own)[0], f"<predict>{own}")
+
+
 def called_otherwise(clone):
     """By a link from another folder, and where the shell looks for folders elsewhere too."""
     link = clone.tools / "linked"
@@ -503,6 +512,7 @@ def without_readlink(clone):
 
 TESTS = (
     carried_program,
+    large_pages,
     called_otherwise,
     built_where_asked,
     how_it_is_built,
