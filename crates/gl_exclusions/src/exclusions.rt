@@ -186,29 +186,40 @@ pub fn shortened<'a>(
     Ok(Sought { len, ..*sought })
 }
 
-// Exclusions that have all edges that are kept, if few are soon found: each time one of the first edge's that
-// has most of those left.
+// Exclusions that have all edges that are kept, if they are fewer than the edges of a cycle may be and soon found: each time one of the
+// first edge's that has most of those left. Else none, or some that don't have all.
 fn exclusions(
     sought: &Sought<'_>,
     alloc: Global,
     turns: &[Turn],
     kept: &[bool],
 ) -> Result<Vec<Exclusion>, Memory> {
-    let mut left = Vec::from_slice(alloc, kept)?;
+    let mut left = places_of(alloc, kept)?;
     let mut found = Vec::new(alloc);
-    for _ in 0..sought.len {
-        let places = places_of(alloc, &left)?;
-        let Some((edge, _)) = edge_at(sought, places.get(0)) else {
+    for turns_left in (1..sought.len).rev() {
+        let Some(exclusion) = widest_of(sought, turns, &left, false) else {
             return Ok(found);
         };
-        let Some(chain) = chain_of(turns, edge.thread) else {
-            return Ok(found);
-        };
-        let exclusion = widest(sought, turns, chain, edge, &places);
-        take_away(sought, turns, &exclusion, &mut left);
+        if turns_left == 1 && !has_looked_at(sought, turns, &exclusion, &left) {
+            break;
+        }
+        left = without(sought, alloc, turns, &exclusion, &left)?;
         found.push(exclusion)?;
     }
+    if !left.is_empty() {
+        found.clear();
+    }
     Ok(found)
+}
+
+// Whether an exclusion has all of some of the edges at these places.
+fn has_looked_at(
+    sought: &Sought<'_>,
+    turns: &[Turn],
+    exclusion: &Exclusion,
+    places: &[usize],
+) -> bool {
+    count(sought, turns, exclusion, places) == places.len().min(LOOKS)
 }
 
 /// Of the exclusions of the first edge at these places the one that has most of some of the edges there; of those of the locks that
@@ -305,20 +316,11 @@ fn has_at(
     }
 }
 
-// Takes away the edges that an exclusion has.
-fn take_away(sought: &Sought<'_>, turns: &[Turn], exclusion: &Exclusion, left: &mut Vec<bool>) {
-    for (place, is_left) in left.iter_mut().enumerate() {
-        if *is_left && has_at(sought, turns, exclusion, Some(&place)) {
-            *is_left = false;
-        }
-    }
-}
-
-// The places of the edges that are left.
-fn places_of(alloc: Global, left: &[bool]) -> Result<Vec<usize>, Memory> {
+// The places of the edges that are kept.
+fn places_of(alloc: Global, kept: &[bool]) -> Result<Vec<usize>, Memory> {
     let mut places = Vec::new(alloc);
-    for (place, &is_left) in left.iter().enumerate() {
-        if is_left {
+    for (place, &is_kept) in kept.iter().enumerate() {
+        if is_kept {
             places.push(place)?;
         }
     }

@@ -117,8 +117,11 @@ pub(crate) fn ranks_of_epochs(
 ) -> Result<Vec<Ranks>, Memory> {
     let sizes = sizes_of(alloc, table.len(), kept, epochs)?;
     let mut numbering = Numbering::of(alloc, &sizes)?;
-    let has_readers = has_readers(table);
-    let steps = number_locks(alloc, table, kept, epochs, has_readers, &mut numbering)?;
+    let mut steps = number_locks(alloc, table, kept, epochs, &mut numbering)?;
+    let has_readers = numbering.has_readers;
+    if has_readers {
+        add_steps_to_readers(table, kept, epochs, &mut numbering, &mut steps)?;
+    }
     let places = place_of(numbering.locks.len(), LockMode::Exclusive);
     let found = components_of(alloc, places, &steps)?;
     let mut ranks = no_ranks(alloc, &sizes, has_readers)?;
@@ -126,13 +129,17 @@ pub(crate) fn ranks_of_epochs(
     Ok(ranks)
 }
 
-// How many edges that are kept each epoch has.
+// How many edges that are kept each epoch has, or may have where there is one.
 fn sizes_of(
     alloc: Global,
     edges: usize,
     kept: &[bool],
     epochs: &Epochs,
 ) -> Result<Vec<usize>, Memory> {
+    if epochs.count == 1 {
+        let sizes = vec![in alloc; edges; 1]?;
+        return Ok(sizes);
+    }
     let mut sizes = vec![in alloc; 0usize; epochs.count]?;
     for i in 0..edges {
         if kept.get(i) == Some(&false) {
@@ -183,6 +190,8 @@ struct Numbering {
     by_epoch: Vec<ByLock<usize>>,
     // of which epoch and lock each number is
     locks: Vec<(usize, LockId)>,
+    // whether one of them is held or wanted by a reader
+    has_readers: bool,
 }
 
 impl Numbering {
@@ -195,6 +204,7 @@ impl Numbering {
         Ok(Numbering {
             by_epoch,
             locks: Vec::new(alloc),
+            has_readers: false,
         })
     }
 
@@ -211,16 +221,21 @@ impl Numbering {
         self.locks.push((epoch, lock))?;
         Ok(number)
     }
+
+    // The step from who holds the edge's lock to those who hold the one that it wants, in this mode.
+    fn step(&mut self, epoch: usize, edge: &Edge, mode: LockMode) -> Result<Step, Memory> {
+        let held = self.number(epoch, edge.held)?;
+        let wanted = self.number(epoch, edge.wanted)?;
+        Ok(Step {
+            from: place_of(held, edge.held_mode),
+            to: place_of(wanted, mode),
+        })
+    }
 }
 
 // Whether an edge holds or wants a lock as a reader.
-fn has_readers(table: &[(Edge, Sample)]) -> bool {
-    for (edge, _) in table {
-        if edge.held_mode == LockMode::Shared || edge.wanted_mode == LockMode::Shared {
-            return true;
-        }
-    }
-    false
+fn has_reader(edge: &Edge) -> bool {
+    edge.held_mode == LockMode::Shared || edge.wanted_mode == LockMode::Shared
 }
 
 // The place in the graph of those who hold the lock with this number in this mode.
@@ -232,13 +247,13 @@ fn place_of(number: usize, mode: LockMode) -> usize {
     }
 }
 
-// Numbers the locks of the edges that are kept, in each epoch, and gives the steps from holders to those for whom they wait.
+// Numbers the locks of the edges that are kept, in each epoch, and gives the steps from holders to those for whom they wait who hold
+// a lock exclusively.
 fn number_locks(
     alloc: Global,
     table: &[(Edge, Sample)],
     kept: &[bool],
     epochs: &Epochs,
-    has_readers: bool,
     numbering: &mut Numbering,
 ) -> Result<Vec<Step>, Memory> {
     let mut steps = Vec::new(alloc);
@@ -246,20 +261,33 @@ fn number_locks(
         if kept.get(i) == Some(&false) {
             continue;
         }
-        let epoch = epochs.epoch(i);
-        let from = place_of(numbering.number(epoch, edge.held)?, edge.held_mode);
-        let wanted = numbering.number(epoch, edge.wanted)?;
-        add_step(&mut steps, from, place_of(wanted, LockMode::Exclusive))?;
-        if has_readers && edge.wanted_mode == LockMode::Exclusive {
-            add_step(&mut steps, from, place_of(wanted, LockMode::Shared))?;
-        }
+        numbering.has_readers |= has_reader(edge);
+        let step = numbering.step(epochs.epoch(i), edge, LockMode::Exclusive)?;
+        add_step(&mut steps, step)?;
     }
     Ok(steps)
 }
 
+// Adds the steps to those who hold a lock as readers, for whom waits who wants it exclusively.
+fn add_steps_to_readers(
+    table: &[(Edge, Sample)],
+    kept: &[bool],
+    epochs: &Epochs,
+    numbering: &mut Numbering,
+    steps: &mut Vec<Step>,
+) -> Result<(), Memory> {
+    for (i, (edge, _)) in table.iter().enumerate() {
+        if kept.get(i) == Some(&false) || edge.wanted_mode == LockMode::Shared {
+            continue;
+        }
+        let step = numbering.step(epochs.epoch(i), edge, LockMode::Shared)?;
+        add_step(steps, step)?;
+    }
+    Ok(())
+}
+
 // Adds a step, unless it only repeats the one before.
-fn add_step(steps: &mut Vec<Step>, from: usize, to: usize) -> Result<(), Memory> {
-    let step = Step { from, to };
+fn add_step(steps: &mut Vec<Step>, step: Step) -> Result<(), Memory> {
     if steps.last() != Some(&step) {
         steps.push(step)?;
     }
