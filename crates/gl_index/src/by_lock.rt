@@ -7,14 +7,14 @@ use gl_event::{LockId, Memory};
 use std::alloc::Global;
 use std::collections::HashMap;
 
-// Up to how many numbers of locks for each edge their values stand side by side.
+// How many numbers of locks are small for each edge.
 const NEAR_AN_EDGE: usize = 4;
 
 /// A value for each lock that has one. Where the number of a lock is small its value is found by it, else by
 /// its hash.
 #[derive(Drop)]
 pub struct ByLock<V> {
-    /// The values of locks with small numbers, each at the place that is its lock's number.
+    /// The values of locks with small numbers, each at the place that is the lock's number.
     pub near: Vec<Option<V>>,
     /// The values of other locks.
     pub far: HashMap<LockId, V>,
@@ -23,9 +23,9 @@ pub struct ByLock<V> {
 }
 
 impl<V: Copy> ByLock<V> {
-    /// No lock has a value. Room grows with the locks that get one, to so many edges' at most for those
-    /// that stand side by side: names that a reader gives are numbers of this kind, but for a table of few
-    /// edges with locks among many.
+    /// No lock has a value. A number is small if it is below four for each of so many edges: a reader numbers
+    /// locks from 0, so most are, unless a trace has few edges and many locks. It takes no memory; room for values
+    /// that stand side by side grows with the greatest small number of a lock that is given one.
     pub fn for_edges(alloc: Global, edges: usize) -> ByLock<V>
         ensures { (lock : ℕ) → value_at result lock ≡ None }
     {
