@@ -23,6 +23,10 @@ sys.path.insert(0, os.path.join(os.path.dirname(HERE), "record"))
 sys.pycache_prefix = os.path.join(os.path.dirname(HERE), "out", "python")
 sys.dont_write_bytecode = True
 
+from early import end_when_interrupted  # noqa: E402
+
+end_when_interrupted("goodlock-python")
+
 from build import has_bytecode_room  # noqa: E402
 
 sys.dont_write_bytecode = not has_bytecode_room()

@@ -30,6 +30,11 @@ sys.path.insert(0, SOURCES)
 sys.pycache_prefix = os.path.join(os.path.dirname(SOURCES), "out", "python")
 sys.dont_write_bytecode = True
 
+from early import end_when_interrupted  # noqa: E402
+
+if __name__ == "__main__":
+    end_when_interrupted("goodlock-confirm")
+
 from build import BuildError, has_bytecode_room  # noqa: E402
 
 sys.dont_write_bytecode = not has_bytecode_room()

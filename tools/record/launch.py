@@ -33,6 +33,11 @@ sys.path.insert(0, SOURCES)
 sys.pycache_prefix = os.path.join(TOOLS, "out", "python")
 sys.dont_write_bytecode = True
 
+from early import end_when_interrupted, raise_when_interrupted  # noqa: E402
+
+if __name__ == "__main__":
+    end_when_interrupted("goodlock-record")
+
 from build import has_bytecode_room  # noqa: E402
 
 sys.dont_write_bytecode = not has_bytecode_room()
@@ -584,6 +589,7 @@ def main(read, used):
     fill_closed_descriptors()
     forget_locale()
     try:
+        raise_when_interrupted()
         return run(read(sys.argv[1:]))
     except Failed as failure:
         say(str(failure))

@@ -350,3 +350,20 @@ def test_an_earlier_preload_library_stays():
     run = record("./locks", "table", environment=environment)
     assert run.status == 0, run.said
     assert any("library_lock" in line for line in run.lines()), str(run.lines())
+
+
+@pytest.mark.parametrize("name", ["goodlock-record", "goodlock-python", "goodlock-confirm"])
+@pytest.mark.parametrize("ignored", [False, True], ids=["heard", "ignored"])
+def test_interrupted_as_it_begins(name, ignored):
+    """While its modules are loaded, as by Ctrl-C: a line says so, as it does afterwards. Where interrupts are ignored it goes on."""
+    for folder in ("record", "python"):
+        shutil.copytree(os.path.join(TOOLS, folder), folder, ignore=shutil.ignore_patterns("__pycache__"))
+    shutil.copy(os.path.join(TOOLS, name), name)
+    with open("record/build.py") as file:
+        text = file.read()
+    with open("record/build.py", "w") as file:
+        file.write("import os, signal, time\nos.kill(os.getpid(), signal.SIGINT)\ntime.sleep(0.01)\n\n" + text)
+    how = (lambda: signal.signal(signal.SIGINT, signal.SIG_IGN)) if ignored else None
+    done = subprocess.run(["./" + name, "--version"], capture_output=True, preexec_fn=how, timeout=LIMIT)
+    told = (0, b"%s 0.1.0\n" % name.encode(), b"") if ignored else (REFUSED, b"", b"%s: interrupted\n" % name.encode())
+    assert (done.returncode, done.stdout, done.stderr) == told, done
