@@ -218,7 +218,7 @@ def text_of(shape, settings):
         return "".join(marked(text_of(name, rest), f"{number}.") for number, (name, _, rest) in enumerate(parts))
     script, *words = ["families.py"] if shape in FAMILIES else ["make_trace.py", "--shape"]
     maker = [sys.executable, os.path.join(HERE, script), *words, shape, *settings.split()]
-    return subprocess.run(maker, stdout=subprocess.PIPE, text=True, check=True).stdout
+    return subprocess.run(maker, stdout=subprocess.PIPE, encoding="latin-1", check=True).stdout
 
 
 def marked(text, mark):
@@ -313,7 +313,7 @@ def main():
                 settings, _, asked = row.partition(" ask ")
                 query = (asked or options.query).split()
                 with tempfile.NamedTemporaryFile(suffix=".std") as trace:
-                    trace.write(text_of(shape, settings).encode())
+                    trace.write(text_of(shape, settings).encode("latin-1"))
                     trace.flush()
                     results = [[] for _ in programs]
                     for turn in range(options.runs):

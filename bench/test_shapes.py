@@ -691,3 +691,12 @@ def test_traces_together_have_what_each_has():
     counted = [stats_of(text, "--max", "100000") for text in (one, other, knots.text_of(knots.TOGETHER, settings))]
     assert all(counted[2][count] == counted[0][count] + counted[1][count] for count in (*COUNTS, "cycles"))
     assert min(counted[0]["edges"], counted[1]["edges"]) > 0
+
+
+def test_names_that_are_no_utf8():
+    """A trace of such names is made for knots.py as make_trace.py prints it."""
+    maker = [sys.executable, BENCH / "make_trace.py", "--shape", "colliding-names", "--locks", "10"]
+    made = subprocess.run(maker, stdout=subprocess.PIPE, check=True).stdout
+    with pytest.raises(UnicodeDecodeError):
+        made.decode()
+    assert knots.text_of("colliding-names", "--locks 10").encode("latin-1") == made
