@@ -298,6 +298,21 @@ def test_a_command_that_is_missing_is_told(path, tmp_path, monkeypatch):
     assert not os.path.exists("reports")
 
 
+def test_what_cannot_be_made_is_told(path, tmp_path, monkeypatch):
+    """A folder of reports where a file stands, and a list of traces where there is no folder for it; each in a line."""
+    write("a.std", TRACE)
+    write("taken", "old\n")
+    status, out, said = predict_all(path, "-o", "taken", "a.std")
+    begin = "goodlock-predict-all: no folder of reports can be made: mkdir: "
+    assert (status, out, said.startswith(begin), said.count("\n")) == (2, "", True, 1), said
+    assert pathlib.Path("taken").read_text() == "old\n"
+    monkeypatch.setenv("TMPDIR", str(tmp_path / "nowhere"))
+    status, out, said = predict_all(path, "a.std")
+    begin = "goodlock-predict-all: no list of the traces can be made: mktemp: "
+    assert (status, out, said.startswith(begin), said.count("\n")) == (2, "", True, 1), said
+    assert not os.path.exists("reports")
+
+
 USAGE = [
     ([], "there is no trace"),
     (["-"], "there is no trace"),
