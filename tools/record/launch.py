@@ -33,7 +33,7 @@ sys.path.insert(0, SOURCES)
 sys.pycache_prefix = os.path.join(TOOLS, "out", "python")
 sys.dont_write_bytecode = True
 
-from early import end_when_interrupted, raise_when_interrupted  # noqa: E402
+from early import STATUS_FAILED, end_when_interrupted, raise_when_interrupted  # noqa: E402
 
 if __name__ == "__main__":
     end_when_interrupted("goodlock-record")
@@ -44,7 +44,6 @@ sys.dont_write_bytecode = not has_bytecode_room()
 
 VERSION = "0.1.0"
 STATUS_NO_EVENTS = 124
-STATUS_FAILED = 125
 STATUS_NOT_EXECUTABLE = 126
 STATUS_NOT_FOUND = 127
 FRAMES_LIMIT = 16
