@@ -19,7 +19,6 @@ import shutil
 import signal
 import stat
 import struct
-import subprocess
 import sys
 import tempfile
 import time
@@ -40,8 +39,9 @@ from build import BuildError, has_bytecode_room  # noqa: E402
 sys.dont_write_bytecode = not has_bytecode_room()
 
 from convert import ConvertError, Sources, clean, described, name_process, read_processes, take_name  # noqa: E402
-from family import BEGIN_LIMIT, Family, adopt_orphans, script_command, send_signal  # noqa: E402
+from family import BEGIN_LIMIT, Family, adopt_orphans, send_signal, start  # noqa: E402
 from findings import ReportError, place_of, read_findings  # noqa: E402
+from interrupt import interrupt_once  # noqa: E402
 from launch import (  # noqa: E402
     VERSION,
     Failed,
@@ -99,6 +99,7 @@ class Settings:
         self.output = None
         self.report = None
         self.command = []
+        self.mask = ()  # the signals that were blocked before
 
 
 def read_number(word, text):
@@ -298,16 +299,11 @@ class Places:
 # --- A run ------------------------------------------------------------------------------------------
 
 
-def started(command, environment):
-    """The program, which nobody hears."""
-    quiet = subprocess.DEVNULL
-    try:
-        return subprocess.Popen(command, env=environment, stdin=quiet, stdout=quiet, stderr=quiet)
-    except OSError as error:
-        script = script_command(command, error)
-        if script is None:
-            raise
-        return subprocess.Popen(script, env=environment, stdin=quiet, stdout=quiet, stderr=quiet)
+def started(command, environment, mask):
+    """Starts the program, which nobody hears, with the signals blocked that were so before."""
+    _, fault = start(command, environment, mask, is_quiet=True)
+    if fault:
+        raise OSError(fault, os.strerror(fault), command[0])
 
 
 class Run:
@@ -329,9 +325,8 @@ class Run:
         self.killed = set()  # processes
         self.unrecorded = set()  # those of them that ran what isn't recorded
         self.limit = time.monotonic() + settings.seconds
-        self.program = None
         try:
-            self.program = started(settings.command, environment)
+            started(settings.command, environment, settings.mask)
             self.watch()
             self.kill()
         finally:  # also what a signal ends, of which there is one at most
@@ -380,8 +375,6 @@ class Run:
             self.family.reap()
             time.sleep(0.01)
         self.family.reap()
-        if self.program:
-            self.program.returncode = 0  # it was waited for
 
     def blind(self, processes):
         """Those in which there was no room for what threads wait for: a cycle there isn't seen."""
@@ -609,13 +602,6 @@ def confirm(settings, finding):
             output.remove()
 
 
-def end_once(*_):
-    """The first signal ends this; while it ends what it started, further ones are passed over."""
-    for number in ENDING:
-        signal.signal(number, signal.SIG_IGN)
-    raise KeyboardInterrupt
-
-
 def main():
     fill_closed_descriptors()
     forget_locale()
@@ -628,9 +614,7 @@ def main():
         raise Failed("a cycle of more than %d edges" % EDGE_LIMIT)
     if not adopt_orphans():
         raise Failed("Python's ctypes is missing")
-    for number in ENDING:
-        if signal.getsignal(number) != signal.SIG_IGN:  # as under nohup
-            signal.signal(number, end_once)
+    settings.mask = interrupt_once(ENDING)
     return confirm(settings, finding)
 
 

@@ -277,7 +277,14 @@ def execute(command, environment):
         os.execve(SHELL, script, environment)
 
 
-def start(command, environment, mask, ignored=()):
+def fall_silent():
+    """This process reads nothing, and nobody hears it."""
+    null = os.open(os.devnull, os.O_RDWR)
+    for number in (0, 1, 2):
+        os.dup2(null, number)
+
+
+def start(command, environment, mask, ignored=(), is_quiet=False):
     """Starts the program, with the signals blocked that were so before, and those `ignored` that were so before Python came; its
     number, or the error that it wasn't started for, which comes over a pipe."""
     reading, writing = os.pipe()
@@ -288,6 +295,8 @@ def start(command, environment, mask, ignored=()):
             for number in (signal.SIGPIPE, signal.SIGXFSZ):  # Python ignores these
                 if number not in ignored:
                     signal.signal(number, signal.SIG_DFL)
+            if is_quiet:
+                fall_silent()
             signal.pthread_sigmask(signal.SIG_SETMASK, mask)
             execute(command, environment)
         except OSError as error:

@@ -206,6 +206,12 @@ def name_of(process):
         return None
 
 
+def has_signals_to_come(process):
+    """Whether signals were sent to it that it hasn't taken."""
+    with open("/proc/%d/status" % process) as file:
+        return any(int(line.split()[1], 16) for line in file if line.startswith("ShdPnd:"))
+
+
 def test_hangup_that_is_ignored(predict, folder):
     """As under nohup: it goes on, and tells its outcome."""
     words = [CONFIRM, "--tries", "1", "--seconds", "4", predict("opposite"), "--", "sleep", "60"]
@@ -218,15 +224,28 @@ def test_hangup_that_is_ignored(predict, folder):
     assert running.returncode == NOT_SEEN and out == b"not seen in 1 try, 2 runs ended after 4 seconds\n", out.decode()
 
 
-def test_a_signal_that_comes_again(predict, folder):
-    """What was started is ended all the same."""
+@pytest.mark.parametrize("senders", [1, 2, 2, 2, 2, 3])
+def test_a_signal_that_comes_again(predict, folder, senders):
+    """And again, as quickly as can be: what was started is ended all the same. What goes wrong only now and then is tried more often."""
     words = [CONFIRM, predict("opposite"), "--", "sleep", "60"]
-    running = subprocess.Popen(words, stderr=subprocess.PIPE)
+    with open("said", "wb") as said:
+        running = subprocess.Popen(words, stderr=said)
     wait_for(lambda: "sleep" in map(name_of, processes_in(folder)), "the program to run")
-    while running.poll() is None:
-        running.send_signal(signal.SIGTERM)
-    said = running.communicate(timeout=LIMIT)[1]
-    assert running.returncode == ERROR and said.endswith(b"goodlock-confirm: interrupted\n"), (running.returncode, said)
+    running.send_signal(signal.SIGSTOP)  # until the senders send
+    sender = ["sh", "-c", "while kill -TERM $0; do :; done 2> /dev/null", str(running.pid)]
+    sending = [subprocess.Popen(sender, cwd="/") for _ in range(senders)]
+    wait_for(lambda: has_signals_to_come(running.pid), "the senders to send")
+    running.send_signal(signal.SIGCONT)
+    try:
+        running.wait(LIMIT)
+    finally:
+        running.kill()
+        running.wait()
+        for each in sending:
+            each.wait()
+    with open("said", "rb") as said:
+        heard = said.read()
+    assert (running.returncode, heard) == (ERROR, b"goodlock-confirm: interrupted\n"), heard[-1000:]
     check_that_nothing_is_left(folder)
 
 
