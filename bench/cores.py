@@ -7,10 +7,14 @@ PROGRAM is goodlock's (what ./goodlock runs, unless given), run as `predict --jo
 are other ones than `predict`, as "live" or "live --stream --threads 1024". All run in turn, --runs (5) times each, on a trace
 of --events (1,000,000) lines of each shape, and on each file of --files (.std or .std.xz). The table has milliseconds: the
 least on the clock, in parentheses the least of user and system time, and the clock of the last J over that of the peers.
+"even" is how long that many processes take that run `--jobs 1` at once, each on the whole trace, over their number: what
+that many threads would take if their work were shared evenly, with nothing that one has to wait for. It says what the
+machine's processors do together, which on virtual ones is less than their number tells.
 BENCH_DIR is the folder for traces and peers (/tmp/goodlock-bench). The status is 1 where two answers differ.
 """
 
 import argparse
+import contextlib
 import glob
 import lzma
 import os
@@ -61,10 +65,26 @@ def best_of(commands, trace, runs):
     return [*zip(map(min, clocks), map(min, processors))], all(answer == answers[0] for answer in answers)
 
 
-def row(name, best, are_equal):
+def at_once(command, trace, count):
+    """The milliseconds until all of so many processes, which begin at once, have ended."""
+    with contextlib.ExitStack() as files:
+        texts = [files.enter_context(open(trace, "rb")) for _ in range(count)]
+        start = time.monotonic()
+        children = [subprocess.Popen(command, stdin=text, stdout=subprocess.DEVNULL) for text in texts]
+        for child in children:
+            child.wait()
+        return (time.monotonic() - start) * 1000
+
+
+def even_share(command, trace, count, runs):
+    """The least milliseconds in which so many processes at once do the work of one of them, counted together."""
+    return min(at_once(command, trace, count) for _ in range(runs)) / count
+
+
+def row(name, best, even, are_equal):
     """A line of the table."""
     (plain, _), (tuned, _), *own = best
-    cells = [f"{plain:.0f}", f"{tuned:.0f}", *(f"{clock:.0f} ({used:.0f})" for clock, used in own)]
+    cells = [f"{plain:.0f}", f"{tuned:.0f}", *(f"{clock:.0f} ({used:.0f})" for clock, used in own), f"{even:.0f}"]
     over = [f"{own[-1][0] / plain:.2f}", f"{own[-1][0] / tuned:.2f}"]
     return f"| `{name}`{'' if are_equal else ' the answers DIFFER'} | {' | '.join(cells + over)} |"
 
@@ -89,10 +109,11 @@ def main():
         options.program or subprocess.check_output([os.path.join(HERE, "..", "goodlock")], env=which, text=True).strip()
     )
     jobs = options.jobs.split(",")
-    commands = [[peer(name), *OPTIONS] for name in PEERS]
-    commands += [[program, *shlex.split(options.words), "--jobs", count] for count in jobs]
+    goodlock = [program, *shlex.split(options.words), "--jobs"]
+    commands = [[peer(name), *OPTIONS] for name in PEERS] + [[*goodlock, count] for count in jobs]
     print(f"least of {options.runs}, milliseconds on the clock (of processors); about {options.events} lines a shape")
-    heads = ["Trace", *PEERS, *(f"`--jobs {count}`" for count in jobs), *(f"{jobs[-1]} / {name}" for name in PEERS)]
+    heads = ["Trace", *PEERS, *(f"`--jobs {count}`" for count in jobs), f"even {jobs[-1]}"]
+    heads += [f"{jobs[-1]} / {name}" for name in PEERS]
     print(f"| {' | '.join(heads)} |\n|{'---|' * len(heads)}")
     traces = [
         (shape, lambda shape=shape: trace_of(shape, options.events)) for shape in options.shapes.split(",") if shape
@@ -104,9 +125,11 @@ def main():
     ]
     differ = False
     for name, path in traces:
-        best, are_equal = best_of(commands, path(), options.runs)
+        trace = path()
+        best, are_equal = best_of(commands, trace, options.runs)
+        even = even_share([*goodlock, "1"], trace, int(jobs[-1]), options.runs)
         differ = differ or not are_equal
-        print(row(name, best, are_equal), flush=True)
+        print(row(name, best, even, are_equal), flush=True)
     return 1 if differ else 0
 
 
