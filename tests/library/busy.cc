@@ -29,6 +29,7 @@ static std::atomic<bool> is_blind{false}, is_slow{false}, is_over{false};
 static std::atomic<pid_t> asker{0};                         // the thread that goes to ask for the session's mutex
 static std::atomic<bool> is_held{false}, is_holding{false}; // pulls, and whether there is one that is held
 static std::atomic<bool> is_patient{false};                 // who sleeps to let the asker go first
+static std::atomic<bool> is_ending{false};                  // the asker asks once recording has stopped
 static std::atomic<unsigned> late_closes{0};                // once recording has stopped
 
 constexpr uint32_t BUSY = 12, LAST = BUSY + 1; // threads, and the lane of the last one beside them and the main thread
@@ -88,7 +89,7 @@ static void hold()
 {
     for (; is_held; std::this_thread::yield()) {
         is_holding = true;
-        const char state = asker == 0 ? 'R' : state_of(asker);
+        const char state = asker == 0 || (is_ending && world.is_open()) ? 'R' : state_of(asker);
         is_held = state != 'S' && state != 'X' && late_closes < 2;
     }
     is_holding = false;
@@ -277,10 +278,11 @@ static void filled()
     check(result.cycles == 1, "another text:\n" + result.text);
 }
 
-// Ends the session beside a thread, while the first pull of that is held for the asker.
+// Ends the session beside a thread, while the first pull of that is held for the asker: however it sleeps before that.
 static goodlock::result finish_beside(goodlock::thread &thread)
 {
     feigned = 1;
+    is_ending = true;
     hold_the_next_pull();
     const goodlock::result result = goodlock::finish();
     thread.join();
